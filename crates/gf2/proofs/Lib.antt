@@ -1,0 +1,5 @@
+pub mod Bits
+pub mod Lists
+pub mod Remainders
+pub mod Turns
+pub mod Determined

@@ -1,0 +1,35 @@
+-- Lists in loops: the place where a loop stands, and what it has filled so far. Assumes nothing.
+use mathlib.Core.Path.{_≡_, sym, ap, subst, _∙_}
+use mathlib.Core.List.{List, _∷_, _++_, append-nil}
+use Prim.Native.Nat.{ℕ, _+_, _-_, _<_}
+use native.Mathlib.Decide.{ℕ-discrete}
+use native.Mathlib.Numerals.{add-one}
+use native.Mathlib.Omega.{arith}
+use borrow.Rule.Slice.PartMut.{putMid}
+use lib.ListN.{length, getD, set, take, drop, length-drop, drop-of-length-le}
+use lib.Seq.{getD-set-same, getD-set-other, drop-cons, take-all}
+
+-- a list from a place on: what stands there, and what is behind it
+pub drop-one {ℓ} : {A : Type ℓ} (xs : List A) (i : ℕ) (d : A) → i < length xs → drop i xs ≡ getD xs i d ∷ drop (i + 1) xs
+drop-one xs i d h = rw add-one (drop-cons xs i d h)
+
+-- the part of a slice from a on, lent and given back
+pub tail-lent : {A : Type 0} (xs : List A) (a : ℕ) → take (length xs - a) (drop a xs) ≡ drop a xs
+tail-lent xs a = take-all (length xs - a) (drop a xs) (omega (arith, length-drop a xs))
+
+pub tail-back : {A : Type 0} (xs ys : List A) (a : ℕ) → putMid a (length xs - a) xs ys ≡ take a xs ++ ys
+tail-back {A} xs ys a =
+    ap (λ (zs : List A). take a xs ++ (ys ++ zs)) (drop-of-length-le (drop a xs) {i = length xs - a} (omega (arith, length-drop a xs)))
+    ∙ ap (λ (zs : List A). take a xs ++ zs) (append-nil ys)
+
+-- the places below p hold the values of f
+module _ {A : Type 0} (d : A) (f : ℕ → A) where
+  abbrev pub Filled : List A → ℕ → Type 0
+  Filled xs p = (i : ℕ) → i < p → getD xs i d ≡ f i
+
+  pub filled-more : (xs : List A) (p : ℕ) (v : A) → p < length xs → v ≡ f p → Filled xs p → Filled (set xs p v) (p + 1)
+  filled-more xs p v h e old i l =
+      elim (ℕ-discrete i p) [
+        | yes q ↦ subst (λ (k : ℕ). getD (set xs p v) k d ≡ f k) (sym q) (getD-set-same xs p v d h ∙ e)
+        | no q ↦ getD-set-other xs p i v d q ∙ old i (omega arith)
+      ]

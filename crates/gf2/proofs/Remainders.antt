@@ -1,0 +1,165 @@
+-- The laws of remainders, over the degree and any divisor: they serve the checks of 6, 14 and 82 bits. Assumes nothing.
+use mathlib.Core.Path.{_≡_, refl, sym, ap, _∙_, subst}
+use mathlib.Core.Bool.{Bool, true, false, false≢true}
+use mathlib.Core.List.{List, [], _∷_, _++_}
+use mathlib.Core.Logic.{_↔_}
+use Prim.Native.Nat.{ℕ, zero, suc, _+_, _≤_}
+use native.Mathlib.Nat.{zero-add, suc-add}
+use native.Mathlib.Omega.{arith}
+use lib.ListN.{length, replicate, length-replicate, length-append, length-drop}
+use Rattle.gf2.specs.Poly.{_⊕_, scale, add, times, divided, remainder, Multiple, checkOf, systematic, allZero}
+use Rattle.gf2.proofs.Bits.{⊕-self, ⊕-false, ⊕-twice, ⊕-left-comm, ⊕-zero}
+
+-- lengths
+pub length-scale : (b : Bool) (xs : List Bool) → length (scale b xs) ≡ length xs
+length-scale b [] = refl
+length-scale b (x ∷ xs) = ap suc (length-scale b xs)
+
+pub length-add : (xs ys : List Bool) → length (add xs ys) ≡ length ys
+length-add [] ys = refl
+length-add (x ∷ xs) [] = refl
+length-add (x ∷ xs) (y ∷ ys) = ap suc (length-add xs ys)
+
+pub length-times : (low q : List Bool) → length (times low q) ≡ length q + length low
+length-times low [] = length-replicate (length low) false ∙ sym (zero-add (length low))
+length-times low (b ∷ q) =
+    ap suc (length-add (scale b low) (times low q) ∙ length-times low q) ∙ sym (suc-add (length q) (length low))
+
+pub length-divided : (low : List Bool) (k : ℕ) (row : List Bool) → length (divided low k row) ≡ length row
+length-divided low zero row = refl
+length-divided low (suc k) [] = refl
+length-divided low (suc k) (b ∷ row) = ap suc (length-divided low k (add (scale b low) row) ∙ length-add (scale b low) row)
+
+pub length-remainder : (low : List Bool) (k : ℕ) (row : List Bool) (d : ℕ) → length row ≡ k + d → length (remainder low k row) ≡ d
+length-remainder low k row d h = length-drop k (divided low k row) ∙ omega (arith, length-divided low k row)
+
+-- sums of rows
+add-twice : (xs ys : List Bool) → add xs (add xs ys) ≡ ys
+add-twice [] ys = refl
+add-twice (x ∷ xs) [] = refl
+add-twice (x ∷ xs) (y ∷ ys) = λ i. ⊕-twice x y i ∷ add-twice xs ys i
+
+add-left-comm : (xs ys zs : List Bool) → add xs (add ys zs) ≡ add ys (add xs zs)
+add-left-comm [] ys zs = refl
+add-left-comm (x ∷ xs) [] zs = refl
+add-left-comm (x ∷ xs) (y ∷ ys) [] = refl
+add-left-comm (x ∷ xs) (y ∷ ys) (z ∷ zs) = λ i. ⊕-left-comm x y z i ∷ add-left-comm xs ys zs i
+
+add-self : (xs : List Bool) → add xs xs ≡ replicate (length xs) false
+add-self [] = refl
+add-self (x ∷ xs) = λ i. ⊕-self x i ∷ add-self xs i
+
+add-zeros : (xs : List Bool) → add xs (replicate (length xs) false) ≡ xs
+add-zeros [] = refl
+add-zeros (x ∷ xs) = λ i. ⊕-false x i ∷ add-zeros xs i
+
+add-none : (xs ys : List Bool) (n : ℕ) → length xs ≡ length ys → add xs ys ≡ replicate n false → xs ≡ ys
+add-none [] [] n l e = refl
+add-none [] (y ∷ ys) n l e = absurd (omega arith)
+add-none (x ∷ xs) [] n l e = absurd (omega arith)
+add-none (x ∷ xs) (y ∷ ys) zero l e = let z : length (x ⊕ y ∷ add xs ys) ≡ 0 = ap length e in absurd (omega arith)
+add-none (x ∷ xs) (y ∷ ys) (suc n) l e =
+    let here : x ⊕ y ≡ false = cc in
+    let rest : add xs ys ≡ replicate n false = cc in
+    λ i. ⊕-zero x y here i ∷ add-none xs ys n (omega arith) rest i
+
+-- the quotient of the same division
+quotientOf : List Bool → ℕ → List Bool → List Bool
+quotientOf low zero row = []
+quotientOf low (suc k) [] = []
+quotientOf low (suc k) (b ∷ row) = b ∷ quotientOf low k (add (scale b low) row)
+
+shorter : (low : List Bool) (k : ℕ) (b : Bool) (row : List Bool) → length (b ∷ row) ≡ suc k + length low
+    → length (add (scale b low) row) ≡ k + length low
+shorter low k b row h = length-add (scale b low) row ∙ omega arith
+
+length-quotient : (low : List Bool) (k : ℕ) (row : List Bool) → length row ≡ k + length low → length (quotientOf low k row) ≡ k
+unfolding quotientOf
+length-quotient low zero row h = refl
+length-quotient low (suc k) [] h = absurd (omega arith)
+length-quotient low (suc k) (b ∷ row) h = ap suc (length-quotient low k (add (scale b low) row) (shorter low k b row h))
+
+quotient-times : (low : List Bool) (k : ℕ) (row : List Bool) → length row ≡ k + length low
+    → remainder low k row ≡ replicate (length low) false → row ≡ times low (quotientOf low k row)
+unfolding quotientOf
+quotient-times low zero row h r = r
+quotient-times low (suc k) [] h r = absurd (omega arith)
+quotient-times low (suc k) (b ∷ row) h r =
+    ap {B = List Bool} (λ xs. b ∷ xs)
+    (sym (add-twice (scale b low) row) ∙ ap (add (scale b low)) (quotient-times low k (add (scale b low) row) (shorter low k b row h) r))
+
+remainder-times : (low q : List Bool) → remainder low (length q) (times low q) ≡ replicate (length low) false
+remainder-times low [] = refl
+remainder-times low (b ∷ q) = ap (remainder low (length q)) (add-twice (scale b low) (times low q)) ∙ remainder-times low q
+
+-- A ROW IS A MULTIPLE EXACTLY WHERE ITS REMAINDER IS ZERO
+pub multiple-remainder : (low : List Bool) (k : ℕ) (row : List Bool) → Multiple low k row → remainder low k row ≡ replicate (length low) false
+multiple-remainder low k row m =
+    ap (remainder low k) (m .product)
+    ∙ subst (λ (n : ℕ). remainder low n (times low (m .quotient)) ≡ replicate (length low) false) (m .long) (remainder-times low (m .quotient))
+
+pub remainder-multiple : (low : List Bool) (k : ℕ) (row : List Bool) → length row ≡ k + length low
+    → remainder low k row ≡ replicate (length low) false → Multiple low k row
+remainder-multiple low k row h r =
+    record { quotient = quotientOf low k row; long = length-quotient low k row h; product = quotient-times low k row h r }
+
+pub multiple-length : (low : List Bool) (k : ℕ) (row : List Bool) → Multiple low k row → length row ≡ k + length low
+multiple-length low k row m = ap length (m .product) ∙ length-times low (m .quotient) ∙ ap (λ (n : ℕ). n + length low) (m .long)
+
+-- what is added behind the first k places is added to the remainder
+remainder-add : (low : List Bool) (k : ℕ) (row ending : List Bool) → k ≤ length row
+    → remainder low k (add (replicate k false ++ ending) row) ≡ add ending (remainder low k row)
+remainder-add low zero row ending h = refl
+remainder-add low (suc k) [] ending h = absurd (omega arith)
+remainder-add low (suc k) (b ∷ row) ending h =
+    ap (remainder low k) (add-left-comm (scale b low) (replicate k false ++ ending) row)
+    ∙ remainder-add low k (add (scale b low) row) ending (rw length-add (omega arith))
+
+add-behind : (info ending : List Bool) → add (replicate (length info) false ++ ending) (info ++ replicate (length ending) false) ≡ info ++ ending
+add-behind [] ending = add-zeros ending
+add-behind (b ∷ info) ending = ap {B = List Bool} (λ xs. b ∷ xs) (add-behind info ending)
+
+pub length-check : (low info : List Bool) → length (checkOf low info) ≡ length low
+length-check low info =
+    length-remainder low (length info) (info ++ replicate (length low) false) (length low)
+    (length-append info (replicate (length low) false) ∙ ap (λ (n : ℕ). length info + n) (length-replicate (length low) false))
+
+-- the remainder of information with an ending is what that ending lacks of the check
+pub remainder-ending : (low info ending : List Bool) → length ending ≡ length low
+    → remainder low (length info) (info ++ ending) ≡ add ending (checkOf low info)
+remainder-ending low info ending h =
+    ap (remainder low (length info)) (sym (add-behind info ending))
+    ∙ remainder-add low (length info) (info ++ replicate (length ending) false) ending (rw length-append (omega arith))
+    ∙ ap (λ (n : ℕ). add ending (remainder low (length info) (info ++ replicate n false))) h
+
+-- INFORMATION FOLLOWED BY ITS CHECK IS A MULTIPLE
+pub systematic-multiple : (low info : List Bool) → Multiple low (length info) (systematic low info)
+systematic-multiple low info =
+    let l = length-check low info in
+    remainder-multiple low (length info) (systematic low info) (length-append info (checkOf low info) ∙ ap (λ (n : ℕ). length info + n) l)
+    (remainder-ending low info (checkOf low info) l ∙ add-self (checkOf low info) ∙ ap (λ (n : ℕ). replicate n false) l)
+
+-- AND THE CHECK IS THE ONLY ENDING THAT MAKES ONE
+pub only-ending : (low info ending : List Bool) → length ending ≡ length low → Multiple low (length info) (info ++ ending) → ending ≡ checkOf low info
+only-ending low info ending h m =
+    add-none ending (checkOf low info) (length low) (h ∙ sym (length-check low info))
+    (sym (remainder-ending low info ending h) ∙ multiple-remainder low (length info) (info ++ ending) m)
+
+-- the test of a row for zero
+pub zeros-allZero : (n : ℕ) → allZero (replicate n false) ≡ true
+zeros-allZero zero = refl
+zeros-allZero (suc n) = zeros-allZero n
+
+pub allZero-zeros : (row : List Bool) → allZero row ≡ true → row ≡ replicate (length row) false
+allZero-zeros [] t = refl
+allZero-zeros (true ∷ row) t = absurd (false≢true t)
+allZero-zeros (false ∷ row) t = ap {B = List Bool} (λ xs. false ∷ xs) (allZero-zeros row t)
+
+-- THE TEST OF A REMAINDER TELLS THE MULTIPLES
+pub multiple-tested : (low : List Bool) (k : ℕ) (row : List Bool) → length row ≡ k + length low
+    → (allZero (remainder low k row) ≡ true) ↔ Multiple low k row
+multiple-tested low k row h = (
+  λ t. remainder-multiple low k row h
+      (allZero-zeros (remainder low k row) t ∙ ap (λ (n : ℕ). replicate n false) (length-remainder low k row (length low) h)),
+  λ m. ap allZero (multiple-remainder low k row m) ∙ zeros-allZero (length low),
+)
