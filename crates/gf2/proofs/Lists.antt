@@ -1,13 +1,16 @@
 -- Lists in loops: the place where a loop stands, and what it has filled so far. Assumes nothing.
-use mathlib.Core.Path.{_≡_, sym, ap, subst, _∙_}
+use mathlib.Core.Path.{_≡_, refl, sym, ap, subst, _∙_}
+use mathlib.Core.Bool.{Bool, false}
 use mathlib.Core.List.{List, _∷_, _++_, append-nil}
-use Prim.Native.Nat.{ℕ, _+_, _-_, _<_}
+use Prim.Native.Nat.{ℕ, zero, suc, _+_, _-_, _<_, _≤_}
+use native.Mathlib.Nat.{zero-add, add-zero}
 use native.Mathlib.Decide.{ℕ-discrete}
 use native.Mathlib.Numerals.{add-one}
 use native.Mathlib.Omega.{arith}
 use borrow.Rule.Slice.PartMut.{putMid}
 use lib.ListN.{length, getD, set, take, drop, length-drop, drop-of-length-le}
-use lib.Seq.{getD-set-same, getD-set-other, drop-cons, take-all}
+use lib.Seq.{getD-set-same, getD-set-other, drop-cons, take-all, ext-getD}
+use Rattle.gf2.specs.Poly.{rowFrom}
 
 -- a list from a place on: what stands there, and what is behind it
 pub drop-one {ℓ} : {A : Type ℓ} (xs : List A) (i : ℕ) (d : A) → i < length xs → drop i xs ≡ getD xs i d ∷ drop (i + 1) xs
@@ -33,3 +36,21 @@ module _ {A : Type 0} (d : A) (f : ℕ → A) where
         | yes q ↦ subst (λ (k : ℕ). getD (set xs p v) k d ≡ f k) (sym q) (getD-set-same xs p v d h ∙ e)
         | no q ↦ getD-set-other xs p i v d q ∙ old i (omega arith)
       ]
+
+-- rows by their places
+pub length-rowFrom : (f : ℕ → Bool) (p n : ℕ) → length (rowFrom f p n) ≡ n
+length-rowFrom f p zero = refl
+length-rowFrom f p (suc n) = ap suc (length-rowFrom f (suc p) n)
+
+rowFrom-later : (f : ℕ → Bool) (p n i : ℕ) → i < n → getD (rowFrom f p n) i false ≡ f (p + i)
+rowFrom-later f p zero i h = absurd (omega arith)
+rowFrom-later f p (suc n) zero h = ap f (sym (add-zero p))
+rowFrom-later f p (suc n) (suc i) h = rowFrom-later f (suc p) n i (omega arith) ∙ ap f (omega arith)
+
+pub getD-rowFrom : (f : ℕ → Bool) (n i : ℕ) → i < n → getD (rowFrom f 0 n) i false ≡ f i
+getD-rowFrom f n i h = rowFrom-later f 0 n i h ∙ ap f (zero-add i)
+
+-- a row that is filled to its end
+pub row-filled : (f : ℕ → Bool) (row : List Bool) (n p : ℕ) → length row ≡ n → n ≤ p → Filled false f row p → row ≡ rowFrom f 0 n
+row-filled f row n p l h filled =
+    ext-getD false row (rowFrom f 0 n) (l ∙ sym (length-rowFrom f 0 n)) (λ i g. filled i (omega arith) ∙ sym (getD-rowFrom f n i (omega arith)))

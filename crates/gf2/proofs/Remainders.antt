@@ -3,12 +3,12 @@ use mathlib.Core.Path.{_≡_, refl, sym, ap, _∙_, subst}
 use mathlib.Core.Bool.{Bool, true, false, false≢true}
 use mathlib.Core.List.{List, [], _∷_, _++_}
 use mathlib.Core.Logic.{_↔_}
-use Prim.Native.Nat.{ℕ, zero, suc, _+_, _≤_}
+use Prim.Native.Nat.{ℕ, zero, suc, _+_}
 use native.Mathlib.Nat.{zero-add, suc-add}
 use native.Mathlib.Omega.{arith}
 use lib.ListN.{length, replicate, length-replicate, length-append, length-drop}
 use Rattle.gf2.specs.Poly.{_⊕_, scale, add, times, divided, remainder, Multiple, checkOf, systematic, allZero}
-use Rattle.gf2.proofs.Bits.{⊕-self, ⊕-false, ⊕-twice, ⊕-left-comm, ⊕-zero}
+use Rattle.gf2.proofs.Bits.{⊕-self, ⊕-false, ⊕-twice, ⊕-swap, ⊕-zero, ⊕-&&}
 
 -- lengths
 pub length-scale : (b : Bool) (xs : List Bool) → length (scale b xs) ≡ length xs
@@ -39,12 +39,6 @@ add-twice [] ys = refl
 add-twice (x ∷ xs) [] = refl
 add-twice (x ∷ xs) (y ∷ ys) = λ i. ⊕-twice x y i ∷ add-twice xs ys i
 
-add-left-comm : (xs ys zs : List Bool) → add xs (add ys zs) ≡ add ys (add xs zs)
-add-left-comm [] ys zs = refl
-add-left-comm (x ∷ xs) [] zs = refl
-add-left-comm (x ∷ xs) (y ∷ ys) [] = refl
-add-left-comm (x ∷ xs) (y ∷ ys) (z ∷ zs) = λ i. ⊕-left-comm x y z i ∷ add-left-comm xs ys zs i
-
 add-self : (xs : List Bool) → add xs xs ≡ replicate (length xs) false
 add-self [] = refl
 add-self (x ∷ xs) = λ i. ⊕-self x i ∷ add-self xs i
@@ -53,7 +47,7 @@ add-zeros : (xs : List Bool) → add xs (replicate (length xs) false) ≡ xs
 add-zeros [] = refl
 add-zeros (x ∷ xs) = λ i. ⊕-false x i ∷ add-zeros xs i
 
-add-none : (xs ys : List Bool) (n : ℕ) → length xs ≡ length ys → add xs ys ≡ replicate n false → xs ≡ ys
+pub add-none : (xs ys : List Bool) (n : ℕ) → length xs ≡ length ys → add xs ys ≡ replicate n false → xs ≡ ys
 add-none [] [] n l e = refl
 add-none [] (y ∷ ys) n l e = absurd (omega arith)
 add-none (x ∷ xs) [] n l e = absurd (omega arith)
@@ -106,14 +100,45 @@ remainder-multiple low k row h r =
 pub multiple-length : (low : List Bool) (k : ℕ) (row : List Bool) → Multiple low k row → length row ≡ k + length low
 multiple-length low k row m = ap length (m .product) ∙ length-times low (m .quotient) ∙ ap (λ (n : ℕ). n + length low) (m .long)
 
--- what is added behind the first k places is added to the remainder
-remainder-add : (low : List Bool) (k : ℕ) (row ending : List Bool) → k ≤ length row
-    → remainder low k (add (replicate k false ++ ending) row) ≡ add ending (remainder low k row)
-remainder-add low zero row ending h = refl
-remainder-add low (suc k) [] ending h = absurd (omega arith)
-remainder-add low (suc k) (b ∷ row) ending h =
-    ap (remainder low k) (add-left-comm (scale b low) (replicate k false ++ ending) row)
-    ∙ remainder-add low k (add (scale b low) row) ending (rw length-add (omega arith))
+-- THE REMAINDER OF A SUM IS THE SUM OF THE REMAINDERS
+scale-⊕ : (x y : Bool) (low : List Bool) → scale (x ⊕ y) low ≡ add (scale x low) (scale y low)
+scale-⊕ x y [] = refl
+scale-⊕ x y (l ∷ low) = λ i. ⊕-&& x y l i ∷ scale-⊕ x y low i
+
+add-swap : (us vs xs ys : List Bool) → length us ≡ length vs → length xs ≡ length ys → add (add us vs) (add xs ys) ≡ add (add us xs) (add vs ys)
+add-swap [] [] xs ys h l = refl
+add-swap [] (v ∷ vs) xs ys h l = absurd (omega arith)
+add-swap (u ∷ us) [] xs ys h l = absurd (omega arith)
+add-swap (u ∷ us) (v ∷ vs) [] [] h l = refl
+add-swap (u ∷ us) (v ∷ vs) [] (y ∷ ys) h l = absurd (omega arith)
+add-swap (u ∷ us) (v ∷ vs) (x ∷ xs) [] h l = absurd (omega arith)
+add-swap (u ∷ us) (v ∷ vs) (x ∷ xs) (y ∷ ys) h l = λ i. ⊕-swap u v x y i ∷ add-swap us vs xs ys (omega arith) (omega arith) i
+
+pub remainder-sum : (low : List Bool) (k : ℕ) (xs ys : List Bool) → length xs ≡ length ys
+    → remainder low k (add xs ys) ≡ add (remainder low k xs) (remainder low k ys)
+remainder-sum low zero xs ys l = refl
+remainder-sum low (suc k) [] [] l = refl
+remainder-sum low (suc k) [] (y ∷ ys) l = absurd (omega arith)
+remainder-sum low (suc k) (x ∷ xs) [] l = absurd (omega arith)
+remainder-sum low (suc k) (x ∷ xs) (y ∷ ys) l =
+    ap (remainder low k)
+    (ap (λ zs. add zs (add xs ys)) (scale-⊕ x y low)
+    ∙ add-swap (scale x low) (scale y low) xs ys (length-scale x low ∙ sym (length-scale y low)) (omega arith))
+    ∙ remainder-sum low k (add (scale x low) xs) (add (scale y low) ys) (length-add (scale x low) xs ∙ omega (arith, length-add (scale y low) ys))
+
+-- a factor, and leading zeros, which bring nothing in
+pub scale-true : (xs : List Bool) → scale true xs ≡ xs
+scale-true [] = refl
+scale-true (x ∷ xs) = ap {B = List Bool} (λ ys. x ∷ ys) (scale-true xs)
+
+pub add-scale-false : (xs ys : List Bool) → add (scale false xs) ys ≡ ys
+add-scale-false [] ys = refl
+add-scale-false (x ∷ xs) [] = refl
+add-scale-false (x ∷ xs) (y ∷ ys) = ap {B = List Bool} (λ zs. y ∷ zs) (add-scale-false xs ys)
+
+remainder-zeros : (low : List Bool) (k : ℕ) (ending : List Bool) → remainder low k (replicate k false ++ ending) ≡ ending
+remainder-zeros low zero ending = refl
+remainder-zeros low (suc k) ending = ap (remainder low k) (add-scale-false low (replicate k false ++ ending)) ∙ remainder-zeros low k ending
 
 add-behind : (info ending : List Bool) → add (replicate (length info) false ++ ending) (info ++ replicate (length ending) false) ≡ info ++ ending
 add-behind [] ending = add-zeros ending
@@ -129,8 +154,9 @@ pub remainder-ending : (low info ending : List Bool) → length ending ≡ lengt
     → remainder low (length info) (info ++ ending) ≡ add ending (checkOf low info)
 remainder-ending low info ending h =
     ap (remainder low (length info)) (sym (add-behind info ending))
-    ∙ remainder-add low (length info) (info ++ replicate (length ending) false) ending (rw length-append (omega arith))
-    ∙ ap (λ (n : ℕ). add ending (remainder low (length info) (info ++ replicate n false))) h
+    ∙ remainder-sum low (length info) (replicate (length info) false ++ ending) (info ++ replicate (length ending) false)
+    (simp (length-append, length-replicate))
+    ∙ (λ i. add (remainder-zeros low (length info) ending i) (remainder low (length info) (info ++ replicate (h i) false)))
 
 -- INFORMATION FOLLOWED BY ITS CHECK IS A MULTIPLE
 pub systematic-multiple : (low info : List Bool) → Multiple low (length info) (systematic low info)

@@ -1,5 +1,5 @@
 -- One turn of each loop, over plain values: what is done and what is left make the whole. Assumes nothing.
-use mathlib.Core.Path.{_≡_, refl, sym, ap, _∙_}
+use mathlib.Core.Path.{_≡_, sym, ap, _∙_}
 use mathlib.Core.Bool.{Bool, true, false}
 use mathlib.Core.List.{List, [], _∷_, _++_, append-assoc}
 use Prim.Native.Nat.{ℕ, suc, _+_, _-_, _≤_, _<_}
@@ -9,16 +9,7 @@ use lib.ListN.{length, getD, set, take, drop, length-append, length-drop, drop-o
 use lib.Seq.{take-suc, take-suc-set, drop-set-lt, take-at, drop-at, length-take-le}
 use Rattle.gf2.specs.Poly.{_⊕_, scale, add, divided, allZero}
 use Rattle.gf2.proofs.Lists.{drop-one}
-use Rattle.gf2.proofs.Remainders.{length-add}
-
-scale-true : (xs : List Bool) → scale true xs ≡ xs
-scale-true [] = refl
-scale-true (x ∷ xs) = ap {B = List Bool} (λ ys. x ∷ ys) (scale-true xs)
-
-add-scale-false : (xs ys : List Bool) → add (scale false xs) ys ≡ ys
-add-scale-false [] ys = refl
-add-scale-false (x ∷ xs) [] = refl
-add-scale-false (x ∷ xs) (y ∷ ys) = ap {B = List Bool} (λ zs. y ∷ zs) (add-scale-false xs ys)
+use Rattle.gf2.proofs.Remainders.{length-add, scale-true, add-scale-false}
 
 -- a place more is added in
 pub add-turn : (low row : List Bool) (j : ℕ) (v : Bool) (whole : List Bool) → j < length low → j < length row

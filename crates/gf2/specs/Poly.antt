@@ -14,6 +14,11 @@ true ⊕ true = false
 true ⊕ false = true
 false ⊕ b = b
 
+-- the row f p, f (p + 1), .. of n bits
+abbrev pub rowFrom : (ℕ → Bool) → ℕ → ℕ → List Bool
+rowFrom f p zero = []
+rowFrom f p (suc n) = f p ∷ rowFrom f (suc p) n
+
 -- a bit times a row
 abbrev pub scale : Bool → List Bool → List Bool
 scale b [] = []

@@ -1,0 +1,83 @@
+-- What antt computes over the tables: the difference property of the check positions, and that the generator's parity
+-- sums are even. Assumes nothing.
+use mathlib.Core.Path.{_≡_, refl, sym, subst}
+use mathlib.Core.Bool.{Bool, true, false, _&&_, not}
+use mathlib.Core.List.{List, [], _∷_, _++_, map}
+use Prim.Native.Nat.{ℕ, zero, suc, _+_, _-_, _%_, _<_}
+use native.Mathlib.Nat.{not-suc-le-zero}
+use native.Mathlib.Omega.{arith}
+use native.Mathlib.Decide.{ℕ-discrete}
+use lib.Dec.{T, eqb, eqb→eq, ltb, ltb→lt}
+use lib.ListN.{length}
+use Rattle.code.specs.Code.{generator}
+use Rattle.code.specs.Vote.{residues, bitAt, parityOver, sumOver, checkPositions}
+use Rattle.code.proofs.Sums.{Below, occurs, seventeenOnce}
+
+-- a test passes at each number below n
+abbrev allTo : ℕ → (ℕ → Bool) → Bool
+allTo zero f = true
+allTo (suc n) f = f n && allTo n f
+
+both : (a b : Bool) → T (a && b) → T a × T b
+both true b t = (tt, t)
+both false b t = absurd t
+
+tested : (n : ℕ) (f : ℕ → Bool) → T (allTo n f) → (v : ℕ) → v < n → T (f v)
+tested zero f t v h = absurd (not-suc-le-zero h)
+tested (suc n) f t v h =
+    elim (ℕ-discrete v n) [
+      | yes e ↦ subst (λ (m : ℕ). T (f m)) (sym e) (both (f n) (allTo n f) t .0)
+      | no d ↦ tested n f (both (f n) (allTo n f) t .1) v (omega arith)
+    ]
+
+-- all differences of an entry of one list and one of another, modulo 273
+abbrev pub differences : List ℕ → List ℕ → List ℕ
+differences ss [] = []
+differences ss (k ∷ ks) = map (λ l. (273 + l - k) % 273) ss ++ differences ss ks
+
+abbrev differenceSet : List ℕ → ℕ → Bool
+differenceSet ss v = eqb (occurs v (differences ss ss)) (seventeenOnce v)
+
+-- EACH NONZERO RESIDUE IS THE DIFFERENCE OF EXACTLY ONE ORDERED PAIR: of the residues as printed, and of the check positions
+pub difference-printed : (v : ℕ) → v < 273 → occurs v (differences residues residues) ≡ seventeenOnce v
+difference-printed v h = eqb→eq _ _ (tested 273 (differenceSet residues) tt v h)
+
+pub difference-once : (v : ℕ) → v < 273 → occurs v (differences checkPositions checkPositions) ≡ seventeenOnce v
+unfolding checkPositions
+difference-once v h = eqb→eq _ _ (tested 273 (differenceSet checkPositions) tt v h)
+
+abbrev evenAt : List Bool → List ℕ → ℕ → Bool
+evenAt row cs t = not (parityOver (λ s. bitAt row ((t + s) % 273)) cs)
+
+not-so : (b : Bool) → T (not b) → b ≡ false
+not-so true t = absurd t
+not-so false t = refl
+
+-- THE GENERATOR'S SUMS ARE EVEN at each of the 273 shifts
+pub generator-even : (t : ℕ) → t < 273 → parityOver (λ s. bitAt (true ∷ generator) ((t + s) % 273)) checkPositions ≡ false
+unfolding checkPositions generator
+generator-even t h = not-so _ (tested 273 (evenAt (true ∷ generator) checkPositions) tt t h)
+
+pub generator-length : length generator ≡ 82
+unfolding generator
+generator-length = refl
+
+pub positions-length : length checkPositions ≡ 17
+unfolding checkPositions
+positions-length = refl
+
+pub positions-twice : sumOver (λ s. 2) checkPositions ≡ 34
+unfolding checkPositions
+positions-twice = refl
+
+abbrev allBelow : ℕ → List ℕ → Bool
+allBelow n [] = true
+allBelow n (x ∷ xs) = ltb x n && allBelow n xs
+
+below : (n : ℕ) (xs : List ℕ) → T (allBelow n xs) → Below n xs
+below n [] t = tt
+below n (x ∷ xs) t = (ltb→lt x n (both (ltb x n) (allBelow n xs) t .0), below n xs (both (ltb x n) (allBelow n xs) t .1))
+
+pub positions-below : Below 273 checkPositions
+unfolding checkPositions
+positions-below = below 273 checkPositions tt

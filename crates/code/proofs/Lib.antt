@@ -1,0 +1,5 @@
+pub mod Sums
+pub mod Computed
+pub mod Orthogonal
+pub mod Majority
+pub mod Accepted

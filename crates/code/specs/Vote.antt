@@ -1,0 +1,45 @@
+-- Document 01, "The block": the corrector votes, 17 parity sums meet in each position. No promise to a caller names
+-- this file: it says how the word is found. Assumes nothing.
+use mathlib.Core.Bool.{Bool, false}
+use mathlib.Core.List.{List, [], _∷_, map}
+use Prim.Native.Nat.{ℕ, _+_, _-_, _*_, _%_}
+use lib.Dec.{leb}
+use lib.ListN.{length, getD}
+use Rattle.gf2.specs.Poly.{_⊕_, rowFrom}
+use Rattle.code.specs.Code.{one}
+
+-- the seventeen residues, as printed
+abbrev pub residues : List ℕ
+residues = 1 ∷ 2 ∷ 4 ∷ 8 ∷ 16 ∷ 32 ∷ 64 ∷ 91 ∷ 117 ∷ 128 ∷ 137 ∷ 182 ∷ 195 ∷ 205 ∷ 234 ∷ 239 ∷ 256 ∷ []
+
+-- some multiple of them by a number prime to 273 gives the sums for this generator: by 67
+unfoldable pub checkPositions : List ℕ
+checkPositions = map (λ r. 67 * r % 273) residues
+
+-- the bit at a position; the left-off position 272 is zero
+abbrev pub bitAt : List Bool → ℕ → Bool
+bitAt row p = getD row p false
+
+-- a sum of bits over a list, and a sum of numbers
+abbrev pub parityOver : (ℕ → Bool) → List ℕ → Bool
+parityOver f [] = false
+parityOver f (v ∷ vs) = f v ⊕ parityOver f vs
+
+abbrev pub sumOver : (ℕ → ℕ) → List ℕ → ℕ
+sumOver f [] = 0
+sumOver f (v ∷ vs) = f v + sumOver f vs
+
+-- the parity sum at shift t, of the seventeen positions t + s round the circle of 273
+unfoldable pub paritySum : List Bool → ℕ → Bool
+paritySum row t = parityOver (λ s. bitAt row ((t + s) % 273)) checkPositions
+
+unfoldable pub paritySums : List Bool → List Bool
+paritySums row = rowFrom (paritySum row) 0 273
+
+-- how many are odd of the seventeen sums that meet in position p, those at the shifts p - s
+unfoldable pub oddSums : List Bool → ℕ → ℕ
+oddSums sums p = sumOver (λ s. one (bitAt sums ((p + 273 - s) % 273))) checkPositions
+
+-- each bit is turned where nine or more of its sums are odd
+unfoldable pub voted : List Bool → List Bool
+voted row = rowFrom (λ p. bitAt row p ⊕ leb 9 (oddSums (paritySums row) p)) 0 (length row)

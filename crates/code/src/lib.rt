@@ -1,0 +1,126 @@
+// The (272,190) code of document 01, "The block": its generator, and the check positions with which the corrector
+// votes. Beside these two tables the crate holds what is proved of them: specs/ says what a code word is, proofs/ why
+// the vote finds it.
+ghost use mathlib.Core.Path.{_≡_};
+ghost use Rattle.code.specs.Code.{generator};
+ghost use Rattle.code.specs.Vote.{checkPositions};
+
+// The generator x^82 + x^77 + .. + 1 below its leading term, highest power first.
+const GENERATOR: [bool; 82] = [
+    false,
+    false,
+    false,
+    false,
+    true,
+    true,
+    false,
+    false,
+    false,
+    false,
+    true,
+    false,
+    false,
+    false,
+    true,
+    true,
+    false,
+    false,
+    false,
+    false,
+    false,
+    false,
+    false,
+    false,
+    false,
+    true,
+    false,
+    false,
+    false,
+    true,
+    false,
+    false,
+    false,
+    true,
+    false,
+    false,
+    false,
+    false,
+    false,
+    false,
+    false,
+    true,
+    false,
+    false,
+    false,
+    true,
+    false,
+    true,
+    false,
+    false,
+    false,
+    false,
+    false,
+    false,
+    false,
+    false,
+    false,
+    true,
+    false,
+    true,
+    false,
+    false,
+    false,
+    true,
+    false,
+    false,
+    false,
+    false,
+    false,
+    false,
+    false,
+    true,
+    false,
+    false,
+    false,
+    false,
+    false,
+    true,
+    false,
+    false,
+    false,
+    true,
+];
+
+// The seventeen residues 1, 2, 4, 8, 16, 32, .. of document 01, each times 67, modulo 273: the positions whose sum is
+// even in every code word, and in every shift of it round the circle of 273.
+const CHECK_POSITIONS: [usize; 17] = [
+    67,
+    134,
+    268,
+    263,
+    253,
+    233,
+    193,
+    91,
+    195,
+    113,
+    170,
+    182,
+    234,
+    85,
+    117,
+    179,
+    226,
+];
+
+pub fn generator_row() -> [bool; 82]
+    ensures { λ r. ⌜ r ≡ generator ⌝ }
+{
+    GENERATOR
+}
+
+pub fn check_positions() -> [usize; 17]
+    ensures { λ r. ⌜ r ≡ checkPositions ⌝ }
+{
+    CHECK_POSITIONS
+}
