@@ -1,0 +1,77 @@
+-- `block::nearest::distance_of`: the places below p are counted, the rest is left. Assumes nothing.
+use Rattle.block.proofs.Turns.{distance-turn, distance-end}
+use Rattle.block.proofs.Bytes.{one-le}
+use Rattle.code.specs.Code.{one, distance}
+use lib.ListN.{drop}
+use lib.Dec.{lit≤}
+use borrow.Author.Needs.{needs}
+use native.Mathlib.Omega.{arith}
+use native.Mathlib.Nat.{zero-add}
+use Prim.Native.Nat.{_≤_, _-_, _+_}
+use mathlib.Core.Path.{_≡_, ap, _∙_}
+use Rattle.block.proofs.nearest.distance_of.Statement.{statement}
+use Rattle.block.proofs.nearest.distance_of.Tie as tie
+
+abbrev Inv-loop : tie.InvT-loop
+Inv-loop row word count₀ p₀ count p = (p ≤ 272) × (count ≤ p) × (count + distance (drop p row) (drop p word) ≡ distance row word)
+
+abbrev μ-loop : tie.MeasureT-loop
+μ-loop row word count₀ p₀ count p = 272 - p
+
+loop-holds : tie.Need-loop-holds Inv-loop μ-loop
+loop-holds c = (lit≤ tt, lit≤ tt, zero-add _)
+
+element-copy-out-sum : tie.Need-element-copy-out-sum Inv-loop μ-loop
+element-copy-out-sum c = search needs
+
+element-copy-out-sum-2 : tie.Need-element-copy-out-sum-2 Inv-loop μ-loop
+element-copy-out-sum-2 c = search needs
+
+sum-requires : tie.Need-sum-requires Inv-loop μ-loop
+sum-requires c κs = search needs
+
+number-requires : tie.Need-number-requires Inv-loop μ-loop
+number-requires c κs = search needs
+
+cast-count : tie.Need-cast-count Inv-loop μ-loop
+cast-count c = search needs
+
+add-count : tie.Need-add-count Inv-loop μ-loop
+add-count c = search needs
+
+add-p : tie.Need-add-p Inv-loop μ-loop
+add-p c = search needs
+
+loop-less : tie.Need-loop-less Inv-loop μ-loop
+loop-less c = search needs
+
+loop-again : tie.Need-loop-again Inv-loop μ-loop
+loop-again c =
+    let h = c .before .before .before .before .before in
+    let a = h .before .args in (
+      search needs,
+      omega (arith, c .number .ensures, one-le (c .before .sum .result)),
+      distance-turn (a .row .now) (a .word .now) (h .loop .p) (h .loop .count) _ (h .loop .inv .2) (c .number .result) (omega arith) (omega arith)
+          (c .number .ensures ∙ ap one (c .before .sum .ensures)),
+    )
+
+returns : tie.Need-returns Inv-loop μ-loop
+returns c = distance-end (c .before .before .args .row .now) (c .before .before .args .word .now) (c .before .loop .p) (c .before .loop .count) _ (c .before .loop .inv .2) (omega arith)
+
+pub distance-of-spec : {M : Type 1} → statement M
+distance-of-spec =
+    tie.close
+    (tie.spec
+    Inv-loop
+    μ-loop
+    loop-holds
+    element-copy-out-sum
+    element-copy-out-sum-2
+    sum-requires
+    number-requires
+    cast-count
+    add-count
+    add-p
+    loop-less
+    loop-again
+    returns)

@@ -1,0 +1,45 @@
+-- Document 01, "The block" and demand 3: what the corrector answers, over all code words. Each record is one outcome:
+-- when it is given, the answer as the paper has it, the count, and every byte of the output. Assumes nothing.
+use mathlib.Core.Path.{_≡_}
+use mathlib.Core.Bool.{Bool}
+use mathlib.Core.List.{List}
+use mathlib.Core.Logic.{_⊎_}
+use Prim.Native.Nat.{ℕ}
+use lib.ListN.{length}
+use Rattle.answers.specs.declared.Answer.{Answer}
+use Rattle.answers.specs.Numbers.{accepted, refused, paper}
+use Rattle.block.specs.Bytes.{rowOf}
+use Rattle.block.specs.Nearest.{Near, NoneNear}
+
+-- It wants 34 bytes in and 34 out (the block reader 34 and 22).
+pub record Sized (room : ℕ) (received before : List ℕ) : Type 0 where
+  pub input : length received ≡ 34
+  pub output : length before ≡ room
+
+-- 1: a length is wrong; the count is 0 and the output as before
+pub record WrongLength (room : ℕ) (received before after : List ℕ) (answer : Answer) (count : ℕ) : Type 0 where
+  pub wrong : Sized room received before → ⊥
+  pub answers : paper answer ≡ refused 1
+  pub counts : count ≡ 0
+  pub same : after ≡ before
+
+-- 2: no code word differs in at most eight places; the count is 0 and the output as before
+pub record NoCodeWord (room : ℕ) (received before after : List ℕ) (answer : Answer) (count : ℕ) : Type 0 where
+  pub sized : Sized room received before
+  pub none : NoneNear (rowOf received)
+  pub answers : paper answer ≡ refused 2
+  pub counts : count ≡ 0
+  pub same : after ≡ before
+
+-- accepted: that code word is the output
+pub record Word (received before after : List ℕ) (answer : Answer) (count : ℕ) : Type 0 where
+  pub sized : Sized 34 received before
+  pub word : List Bool
+  pub found : Near (rowOf received) word count
+  pub answers : paper answer ≡ accepted
+  pub long : length after ≡ 34
+  pub written : rowOf after ≡ word
+
+abbrev pub Corrects : (received before after : List ℕ) (answer : Answer) (count : ℕ) → Type 0
+Corrects received before after answer count =
+    WrongLength 34 received before after answer count ⊎ (NoCodeWord 34 received before after answer count ⊎ Word received before after answer count)

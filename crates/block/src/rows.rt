@@ -1,0 +1,59 @@
+// A block's bytes and the row of its bits: position p is the bit of weight 2^(p mod 8) in byte p / 8.
+ghost use mathlib.Core.Path.{_≡_};
+ghost use Prim.Native.Nat.{_+_, _*_, _/_, _%_, _<_, _≤_};
+ghost use lib.ListN.{length, getD, take, drop};
+ghost use Rattle.code.specs.Code.{one};
+ghost use Rattle.block.specs.Bytes.{bitOf, rowOf, packed};
+
+// A bit as a number.
+pub(crate) fn number(bit: bool) -> u8
+    ensures { λ r. ⌜ r ≡ one bit ⌝ }
+{
+    if bit { 1 } else { 0 }
+}
+
+fn bit_at(bytes: &[u8], p: usize) -> bool
+    requires { ⌜ p < 8 * length (now bytes) ⌝ }
+    ensures { λ r. ⌜ r ≡ bitOf (getD (now (bytes .entry)) (p / 8) 0) (p % 8) ⌝ }
+{
+    (bytes[p / 8] >> (p % 8)) % 2 == 1
+}
+
+pub(crate) fn unpack(bytes: &[u8]) -> [bool; 272]
+    requires { ⌜ length (now bytes) ≡ 34 ⌝ }
+    ensures { λ r. ⌜ r ≡ rowOf (now (bytes .entry)) ⌝ }
+{
+    let mut row = [false; 272];
+    let mut p: usize = 0;
+    while p < 272 {
+        row[p] = bit_at(bytes, p);
+        p += 1;
+    }
+    row
+}
+
+// The byte of the eight places from `at` on.
+fn byte_at(row: &[bool], at: usize) -> u8
+    requires { ⌜ at + 8 ≤ length (now row) ⌝ }
+    ensures { λ r. ⌜ r ≡ packed (take 8 (drop at (now (row .entry)))) ⌝ }
+{
+    let mut byte: u8 = 0;
+    let mut j: usize = 8;
+    while 0 < j {
+        j -= 1;
+        byte = number(row[at + j]) + 2 * byte;
+    }
+    byte
+}
+
+// Fills `out` with the leading places of a row.
+pub(crate) fn pack(row: &[bool], out: &mut [u8])
+    requires { ⌜ 8 * length (now out) ≤ length (now row) ⌝ }
+    ensures { λ r. ⌜ rowOf (now (out .exit)) ≡ take (8 * length (now (out .entry))) (now (row .entry)) ⌝ }
+{
+    let mut k: usize = 0;
+    while k < out.len() {
+        out[k] = byte_at(row, 8 * k);
+        k += 1;
+    }
+}
