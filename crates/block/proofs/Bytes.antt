@@ -21,7 +21,7 @@ pub length-rowOf : (bytes : List ℕ) → length (rowOf bytes) ≡ 8 * length by
 unfolding rowOf
 length-rowOf bytes = length-rowFrom _ 0 (8 * length bytes)
 
-getD-rowOf : (bytes : List ℕ) (p : ℕ) → p < 8 * length bytes → getD (rowOf bytes) p false ≡ bitOf (getD bytes (p / 8) 0) (p % 8)
+pub getD-rowOf : (bytes : List ℕ) (p : ℕ) → p < 8 * length bytes → getD (rowOf bytes) p false ≡ bitOf (getD bytes (p / 8) 0) (p % 8)
 unfolding rowOf
 getD-rowOf bytes p h = getD-rowFrom (λ q. bitOf (getD bytes (q / 8) 0) (q % 8)) (8 * length bytes) p h
 

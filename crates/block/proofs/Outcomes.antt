@@ -1,11 +1,10 @@
 -- What was seen decides the outcome. Assumes nothing.
 use mathlib.Core.Path.{_≡_, refl, sym, ap, _∙_, subst}
 use mathlib.Core.Bool.{Bool, true, false, false≢true}
-use mathlib.Core.List.{List}
-use mathlib.Core.Logic.{inl, inr}
+use mathlib.Core.List.{List, _++_, append-nil}
 use Prim.Native.Nat.{ℕ, _*_, _-_, _≤_, _<_}
 use native.Mathlib.Omega.{arith}
-use lib.ListN.{length, take, drop, length-drop}
+use lib.ListN.{length, take, drop, replicate, length-drop, length-replicate, drop-of-length-le}
 use lib.Seq.{take-all}
 use Rattle.answers.specs.declared.Answer.{Answer}
 use Rattle.answers.specs.Numbers.{accepted, refused, paper}
@@ -18,7 +17,8 @@ use Rattle.code.proofs.Majority.{length-voted, code-length}
 use Rattle.code.proofs.Accepted.{code-tested, accepts}
 use Rattle.block.specs.Bytes.{rowOf}
 use Rattle.block.specs.Nearest.{Near, NoneNear, Searched}
-use Rattle.block.specs.Corrector.{Sized, Corrects}
+use Rattle.block.specs.Corrector.{Sized, WrongLength, NoCodeWord, Word}
+use Rattle.block.specs.Blocks.{CheckRight, Information}
 
 -- the rest of the division by the generator
 pub divided-rest : (row after low : List Bool) → length row ≡ 272 → low ≡ generator → after ≡ divided low (length row - length low) row
@@ -51,22 +51,39 @@ module _ (row word : List Bool) (code : Bool) (l : length row ≡ 272) (voting :
     missed = λ f. absurd (false≢true (sym f));
   }
 
--- the corrector
-module _ (received before : List ℕ) (answer : Answer) (count : ℕ) where
-  pub wrong-length : (Sized 34 received before → ⊥) → paper answer ≡ refused 1 → count ≡ 0 → Corrects received before before answer count
-  wrong-length h a n = inl (record { wrong = h; answers = a; counts = n; same = refl })
+-- a received block fills the row
+pub whole-row : (bytes : List ℕ) → length bytes ≡ 34 → rowOf bytes ++ drop (8 * length bytes) (replicate 272 false) ≡ rowOf bytes
+whole-row bytes l =
+    ap (λ xs. rowOf bytes ++ xs) (drop-of-length-le (replicate 272 false) {i = 8 * length bytes} (omega (arith, length-replicate 272 false))) ∙ append-nil (rowOf bytes)
 
-  pub no-code-word : Sized 34 received before → NoneNear (rowOf received) → paper answer ≡ refused 2 → count ≡ 0 → Corrects received before before answer count
-  no-code-word sized none a n = inr (inl (record { sized = sized; none = none; answers = a; counts = n; same = refl }))
+-- the refusals of the corrector (room 34) and of the block reader (room 22)
+module _ (room : ℕ) (received before : List ℕ) (answer : Answer) (count : ℕ) where
+  pub wrong-length : (Sized 34 room received before → ⊥) → paper answer ≡ refused 1 → count ≡ 0 → WrongLength room received before before answer count
+  wrong-length h a n = record { wrong = h; answers = a; counts = n; same = refl }
 
-  pub corrected : (word : List Bool) (after : List ℕ) → Sized 34 received before → Near (rowOf received) word count → paper answer ≡ accepted
-      → length after ≡ length before → rowOf after ≡ take (8 * length before) word → Corrects received before after answer count
-  corrected word after sized near a l w =
-      inr (inr (record {
-        sized = sized;
-        word = word;
-        found = near;
-        answers = a;
-        long = l ∙ sized .output;
-        written = w ∙ take-all (8 * length before) word (omega (arith, sized .output, code-length word (near .code)));
-      }))
+  pub no-code-word : Sized 34 room received before → NoneNear (rowOf received) → paper answer ≡ refused 2 → count ≡ 0 → NoCodeWord room received before before answer count
+  no-code-word sized none a n = record { sized = sized; none = none; answers = a; counts = n; same = refl }
+
+-- what is packed of a code word: the whole, or its information
+module _ (received before after : List ℕ) (answer : Answer) (count : ℕ) (word : List Bool) (near : Near (rowOf received) word count)
+    (a : paper answer ≡ accepted) (l : length after ≡ length before) (w : rowOf after ≡ take (8 * length before) word) where
+  pub corrected : Sized 34 34 received before → Word received before after answer count
+  corrected sized = record {
+    sized = sized;
+    word = word;
+    found = near;
+    answers = a;
+    long = l ∙ sized .output;
+    written = w ∙ take-all (8 * length before) word (omega (arith, sized .output, code-length word (near .code)));
+  }
+
+  pub information : Sized 34 22 received before → CheckRight word → Information received before after answer count
+  information sized right = record {
+    sized = sized;
+    word = word;
+    found = near;
+    right = right;
+    answers = a;
+    long = l ∙ sized .output;
+    given = w ∙ ap (λ (n : ℕ). take (8 * n) word) (sized .output);
+  }

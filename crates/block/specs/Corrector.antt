@@ -11,21 +11,21 @@ use Rattle.answers.specs.Numbers.{accepted, refused, paper}
 use Rattle.block.specs.Bytes.{rowOf}
 use Rattle.block.specs.Nearest.{Near, NoneNear}
 
--- It wants 34 bytes in and 34 out (the block reader 34 and 22).
-pub record Sized (room : ℕ) (received before : List ℕ) : Type 0 where
-  pub input : length received ≡ 34
+-- It wants 34 bytes in and 34 out, the reader 34 and 22, the block writer 22 and 34, else 1.
+pub record Sized (bytes room : ℕ) (given before : List ℕ) : Type 0 where
+  pub input : length given ≡ bytes
   pub output : length before ≡ room
 
 -- 1: a length is wrong; the count is 0 and the output as before
 pub record WrongLength (room : ℕ) (received before after : List ℕ) (answer : Answer) (count : ℕ) : Type 0 where
-  pub wrong : Sized room received before → ⊥
+  pub wrong : Sized 34 room received before → ⊥
   pub answers : paper answer ≡ refused 1
   pub counts : count ≡ 0
   pub same : after ≡ before
 
 -- 2: no code word differs in at most eight places; the count is 0 and the output as before
 pub record NoCodeWord (room : ℕ) (received before after : List ℕ) (answer : Answer) (count : ℕ) : Type 0 where
-  pub sized : Sized room received before
+  pub sized : Sized 34 room received before
   pub none : NoneNear (rowOf received)
   pub answers : paper answer ≡ refused 2
   pub counts : count ≡ 0
@@ -33,7 +33,7 @@ pub record NoCodeWord (room : ℕ) (received before after : List ℕ) (answer : 
 
 -- accepted: that code word is the output
 pub record Word (received before after : List ℕ) (answer : Answer) (count : ℕ) : Type 0 where
-  pub sized : Sized 34 received before
+  pub sized : Sized 34 34 received before
   pub word : List Bool
   pub found : Near (rowOf received) word count
   pub answers : paper answer ≡ accepted

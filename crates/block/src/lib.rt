@@ -1,7 +1,9 @@
 // Document 01, "The block": 272 bits in sending order, as 34 bytes.
 ghost use mathlib.Core.Path.{_≡_};
 ghost use Rattle.block.specs.Corrector.{Corrects};
+ghost use Rattle.block.specs.Blocks.{Reads, Writes};
 
+mod check;
 mod nearest;
 mod rows;
 
@@ -11,7 +13,10 @@ use answers::Refusal;
 // A block without its BIC, in bytes.
 pub const BLOCK_BYTES: usize = 34;
 
-// What the corrector answers: the count is the number of places in which the code word differs from what was received.
+// The information of a block, in bytes.
+pub const INFORMATION_BYTES: usize = 22;
+
+// What the corrector and the block reader answer: the count is the number of places in which the code word differs from what was received.
 pub struct Corrected {
     pub answer: Answer,
     pub count: u8,
@@ -29,8 +34,7 @@ pub fn correct(received: &[u8], out: &mut [u8]) -> Corrected
     if out.len() != BLOCK_BYTES {
         return refused(Refusal::WrongLength);
     }
-    let row = rows::unpack(received);
-    let found = nearest::nearest(&row);
+    let found = nearest::nearest(received);
     if !found.near {
         return refused(Refusal::NoCodeWord);
     }
@@ -40,6 +44,57 @@ pub fn correct(received: &[u8], out: &mut [u8]) -> Corrected
         answer: Answer::Accepted,
         count: found.count,
     }
+}
+
+// Puts into `out` the 22 information bytes of the code word that differs from the received bits in at most eight places.
+// Answers, in the order of their tests: 1, `received` has another length than 34 or `out` than 22; 2, there is no such
+// code word; 3, its check bits are wrong. A refusal leaves `out` as it was; the count is 0 with 1 and 2.
+pub fn read_block(received: &[u8], out: &mut [u8]) -> Corrected
+    ensures { λ r. ⌜ Reads (now (received .entry)) (now (out .entry)) (now (out .exit)) (r .answer) (r .count) ⌝ }
+{
+    if received.len() != BLOCK_BYTES {
+        return refused(Refusal::WrongLength);
+    }
+    if out.len() != INFORMATION_BYTES {
+        return refused(Refusal::WrongLength);
+    }
+    let found = nearest::nearest(received);
+    if !found.near {
+        return refused(Refusal::NoCodeWord);
+    }
+    let word = found.word;
+    if !check::holds(&word) {
+        return Corrected {
+            answer: Answer::Refused(Refusal::CheckBits),
+            count: found.count,
+        };
+    }
+    rows::pack(&word, out);
+    Corrected {
+        answer: Answer::Accepted,
+        count: found.count,
+    }
+}
+
+// Puts into `out` the block of 22 information bytes: information, check and parity in sending order.
+// Answer 1: `information` has another length than 22 or `out` than 34; `out` is as it was.
+pub fn write_block(information: &[u8], out: &mut [u8]) -> Answer
+    ensures { λ r. ⌜ Writes (now (information .entry)) (now (out .entry)) (now (out .exit)) r ⌝ }
+{
+    if information.len() != INFORMATION_BYTES {
+        return Answer::Refused(Refusal::WrongLength);
+    }
+    if out.len() != BLOCK_BYTES {
+        return Answer::Refused(Refusal::WrongLength);
+    }
+    let mut row = [false; 272];
+    rows::unpack(information, &mut row);
+    let divisor = check::divisor();
+    let generator = code::generator_row();
+    let checked = check::append(row, 176, &divisor);
+    let word = check::append(checked, 190, &generator);
+    rows::pack(&word, out);
+    Answer::Accepted
 }
 
 fn refused(refusal: Refusal) -> Corrected

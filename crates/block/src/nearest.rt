@@ -6,6 +6,7 @@ ghost use lib.ListN.{length};
 ghost use Rattle.gf2.specs.Poly.{allZero, remainder};
 ghost use Rattle.code.specs.Code.{distance, generator};
 ghost use Rattle.code.specs.Vote.{bitAt, checkPositions, paritySum, paritySums, oddSums, voted};
+ghost use Rattle.block.specs.Bytes.{rowOf};
 ghost use Rattle.block.specs.Nearest.{Searched};
 use super::rows;
 
@@ -98,16 +99,16 @@ fn distance_of(row: &[bool; 272], word: &[bool; 272]) -> usize
     ensures { λ r. ⌜ r ≡ distance (now (row .entry)) (now (word .entry)) ⌝ }
 {
     let mut count: usize = 0;
-    let mut p: usize = 0;
-    while p < 272 {
-        count += rows::number(gf2::sum(row[p], word[p])) as usize;
-        p += 1;
+    let mut place: usize = 0;
+    while place < 272 {
+        count += rows::number(gf2::sum(row[place], word[place])) as usize;
+        place += 1;
     }
     count
 }
 
 // The vote alone may leave a row that is no code word, or turn more than eight bits; both are tested.
-pub(crate) fn nearest(row: &[bool; 272]) -> Found
+fn search(row: &[bool; 272]) -> Found
     requires { ⌜ length (now row) ≡ 272 ⌝ }
     ensures { λ r. ⌜ Searched (now (row .entry)) (r .near) (r .word) (r .count) ⌝ }
 {
@@ -130,4 +131,14 @@ pub(crate) fn nearest(row: &[bool; 272]) -> Found
         word,
         count,
     }
+}
+
+// The code word within eight places of a received block.
+pub(crate) fn nearest(received: &[u8]) -> Found
+    requires { ⌜ length (now received) ≡ 34 ⌝ }
+    ensures { λ r. ⌜ Searched (rowOf (now (received .entry))) (r .near) (r .word) (r .count) ⌝ }
+{
+    let mut row = [false; 272];
+    rows::unpack(received, &mut row);
+    search(&row)
 }

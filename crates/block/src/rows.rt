@@ -1,5 +1,6 @@
 // A block's bytes and the row of its bits: position p is the bit of weight 2^(p mod 8) in byte p / 8.
 ghost use mathlib.Core.Path.{_≡_};
+ghost use mathlib.Core.List.{_++_};
 ghost use Prim.Native.Nat.{_+_, _*_, _/_, _%_, _<_, _≤_};
 ghost use lib.ListN.{length, getD, take, drop};
 ghost use Rattle.code.specs.Code.{one};
@@ -19,17 +20,17 @@ fn bit_at(bytes: &[u8], p: usize) -> bool
     (bytes[p / 8] >> (p % 8)) % 2 == 1
 }
 
-pub(crate) fn unpack(bytes: &[u8]) -> [bool; 272]
-    requires { ⌜ length (now bytes) ≡ 34 ⌝ }
-    ensures { λ r. ⌜ r ≡ rowOf (now (bytes .entry)) ⌝ }
+// Fills the leading places of a row with the bits of some bytes.
+pub(crate) fn unpack(bytes: &[u8], row: &mut [bool])
+    requires { ⌜ 8 * length (now bytes) ≤ length (now row) ⌝ }
+    ensures { λ r. ⌜ now (row .exit) ≡ rowOf (now (bytes .entry)) ++ drop (8 * length (now (bytes .entry))) (now (row .entry)) ⌝ }
 {
-    let mut row = [false; 272];
+    let places = 8 * bytes.len();
     let mut p: usize = 0;
-    while p < 272 {
+    while p < places {
         row[p] = bit_at(bytes, p);
         p += 1;
     }
-    row
 }
 
 // The byte of the eight places from `at` on.

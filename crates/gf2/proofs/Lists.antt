@@ -1,7 +1,7 @@
 -- Lists in loops: the place where a loop stands, and what it has filled so far. Assumes nothing.
 use mathlib.Core.Path.{_≡_, refl, sym, ap, subst, _∙_}
 use mathlib.Core.Bool.{Bool, false}
-use mathlib.Core.List.{List, _∷_, _++_, append-nil}
+use mathlib.Core.List.{List, [], _∷_, _++_, append-nil, append-assoc}
 use Prim.Native.Nat.{ℕ, zero, suc, _+_, _-_, _<_, _≤_}
 use native.Mathlib.Nat.{zero-add, add-zero}
 use native.Mathlib.Decide.{ℕ-discrete}
@@ -9,7 +9,7 @@ use native.Mathlib.Numerals.{add-one}
 use native.Mathlib.Omega.{arith}
 use borrow.Rule.Slice.PartMut.{putMid}
 use lib.ListN.{length, getD, set, take, drop, length-drop, drop-of-length-le}
-use lib.Seq.{getD-set-same, getD-set-other, drop-cons, take-all, ext-getD}
+use lib.Seq.{getD-set-same, getD-set-other, drop-cons, take-all, take-suc, length-take-le, set-at, ext-getD}
 use Rattle.gf2.specs.Poly.{rowFrom}
 
 -- a list from a place on: what stands there, and what is behind it
@@ -36,6 +36,18 @@ module _ {A : Type 0} (d : A) (f : ℕ → A) where
         | yes q ↦ subst (λ (k : ℕ). getD (set xs p v) k d ≡ f k) (sym q) (getD-set-same xs p v d h ∙ e)
         | no q ↦ getD-set-other xs p i v d q ∙ old i (omega arith)
       ]
+
+-- the places below p are copied from another list, the rest is as it was
+pub front-turn : {A : Type 0} (new old now : List A) (p : ℕ) (v d : A) → p < length new → p < length old → v ≡ getD new p d
+    → now ≡ take p new ++ drop p old → set now p v ≡ take (p + 1) new ++ drop (p + 1) old
+front-turn {A} new old now p v d hn ho e q =
+    ap (λ (xs : List A). set xs p v) (q ∙ ap (λ (xs : List A). take p new ++ xs) (drop-one old p d ho))
+    ∙ set-at (take p new) (getD old p d) (drop (p + 1) old) v p (length-take-le p new (omega arith))
+    ∙ sym (append-assoc (take p new) (v ∷ []) (drop (p + 1) old))
+    ∙ ap (λ (xs : List A). xs ++ drop (p + 1) old) (sym more)
+  where
+    more : take (p + 1) new ≡ take p new ++ (v ∷ [])
+    more = rw (e, add-one) (take-suc new p d hn)
 
 -- rows by their places
 pub length-rowFrom : (f : ℕ → Bool) (p n : ℕ) → length (rowFrom f p n) ≡ n

@@ -1,14 +1,12 @@
--- `block::correct`: the lengths, then what the search says of the row of the received bytes. Assumes nothing.
-use mathlib.Core.List.{List}
-use mathlib.Core.Bool.{Bool}
-use lib.ListN.{length}
-use Rattle.block.specs.Nearest.{Near, NoneNear}
-use mathlib.Core.Path.{subst, _≡_, refl, ap}
+-- `block::correct`: the lengths, then what the search says of the received block. Assumes nothing.
 use Rattle.block.proofs.Outcomes.{wrong-length, no-code-word, corrected}
 use Rattle.code.proofs.Majority.{code-length}
 use Rattle.answers.specs.Numbers.{paper}
+use lib.ListN.{length}
 use borrow.Author.Tests.{not-true, not-false}
 use native.Mathlib.Omega.{arith}
+use mathlib.Core.Logic.{inl, inr}
+use mathlib.Core.Path.{_≡_, refl, ap}
 use borrow.Author.Needs.{needs}
 use Rattle.block.proofs.correct.Statement.{statement}
 use Rattle.block.proofs.correct.Tie as tie
@@ -17,16 +15,13 @@ refused-requires : tie.Need-refused-requires
 refused-requires c κs = search needs
 
 returns : tie.Need-returns
-returns c = wrong-length _ _ _ _ (λ z. c .before .if1 .taken (z .input)) (ap paper (c .refused .ensures .0)) (c .refused .ensures .1)
+returns c = inl (wrong-length _ _ _ _ _ (λ z. c .before .if1 .taken (z .input)) (ap paper (c .refused .ensures .0)) (c .refused .ensures .1))
 
 refused-requires-2 : tie.Need-refused-requires-2
 refused-requires-2 c κs = search needs
 
 returns-2 : tie.Need-returns-2
-returns-2 c = wrong-length _ _ _ _ (λ z. c .before .if2 .taken (z .output)) (ap paper (c .refused2 .ensures .0)) (c .refused2 .ensures .1)
-
-unpack-requires : tie.Need-unpack-requires
-unpack-requires c κs = search needs
+returns-2 c = inl (wrong-length _ _ _ _ _ (λ z. c .before .if2 .taken (z .output)) (ap paper (c .refused2 .ensures .0)) (c .refused2 .ensures .1))
 
 nearest-requires : tie.Need-nearest-requires
 nearest-requires c κs = search needs
@@ -37,9 +32,8 @@ refused-requires-3 c κs = search needs
 returns-3 : tie.Need-returns-3
 returns-3 c =
     let s = c .before .before .before in
-    let u = s .before .before in
-    no-code-word _ _ _ _ (record { input = u .before .before .if1 .left; output = u .before .if2 .left })
-    (subst NoneNear (u .unpack .ensures) (s .nearest .ensures .missed (not-true _ (c .before .if3 .taken)))) (ap paper (c .refused3 .ensures .0)) (c .refused3 .ensures .1)
+    inr (inl (no-code-word _ _ _ _ _ (record { input = s .before .before .if1 .left; output = s .before .if2 .left })
+    (s .nearest .ensures .missed (not-true _ (c .before .if3 .taken))) (ap paper (c .refused3 .ensures .0)) (c .refused3 .ensures .1)))
 
 slice-aggregate-pack : tie.Need-slice-aggregate-pack
 slice-aggregate-pack c = search needs
@@ -49,7 +43,7 @@ pack-requires c κs =
     let f = c .before .before .before in
     let s = f .before .before in
     let word : length (s .nearest .result .word) ≡ 272 = code-length _ (s .nearest .ensures .met (not-false _ (f .if3 .left)) .code) in
-    omega (arith, s .before .before .before .if2 .left)
+    omega (arith, s .before .if2 .left)
 
 same-length : tie.Need-same-length
 same-length c = search needs
@@ -59,9 +53,8 @@ returns-4 c =
     let p = c .before .before in
     let f = p .before .before .before .before in
     let s = f .before .before in
-    let u = s .before .before in
-    corrected _ _ _ _ _ _ (record { input = u .before .before .if1 .left; output = u .before .if2 .left })
-    (subst (λ (row : List Bool). Near row (s .nearest .result .word) (s .nearest .result .count)) (u .unpack .ensures) (s .nearest .ensures .met (not-false _ (f .if3 .left)))) refl (p .pack .kept .1 .0) (p .pack .ensures)
+    inr (inr (corrected _ _ _ _ _ _ (s .nearest .ensures .met (not-false _ (f .if3 .left))) refl (p .pack .kept .1 .0) (p .pack .ensures)
+    (record { input = s .before .before .if1 .left; output = s .before .if2 .left })))
 
 pub correct-spec : {M : Type 1} → statement M
 correct-spec =
@@ -71,7 +64,6 @@ correct-spec =
     returns
     refused-requires-2
     returns-2
-    unpack-requires
     nearest-requires
     refused-requires-3
     returns-3

@@ -1,4 +1,4 @@
--- `block::nearest::distance_of`: the places below p are counted, the rest is left. Assumes nothing.
+-- `block::nearest::distance_of`: the places before `place` are counted, the rest is left. Assumes nothing.
 use Rattle.block.proofs.Turns.{distance-turn, distance-end}
 use Rattle.block.proofs.Bytes.{one-le}
 use Rattle.code.specs.Code.{one, distance}
@@ -13,10 +13,10 @@ use Rattle.block.proofs.nearest.distance_of.Statement.{statement}
 use Rattle.block.proofs.nearest.distance_of.Tie as tie
 
 abbrev Inv-loop : tie.InvT-loop
-Inv-loop row word count₀ p₀ count p = (p ≤ 272) × (count ≤ p) × (count + distance (drop p row) (drop p word) ≡ distance row word)
+Inv-loop row word count₀ place₀ count place = (place ≤ 272) × (count ≤ place) × (count + distance (drop place row) (drop place word) ≡ distance row word)
 
 abbrev μ-loop : tie.MeasureT-loop
-μ-loop row word count₀ p₀ count p = 272 - p
+μ-loop row word count₀ place₀ count place = 272 - place
 
 loop-holds : tie.Need-loop-holds Inv-loop μ-loop
 loop-holds c = (lit≤ tt, lit≤ tt, zero-add _)
@@ -39,8 +39,8 @@ cast-count c = search needs
 add-count : tie.Need-add-count Inv-loop μ-loop
 add-count c = search needs
 
-add-p : tie.Need-add-p Inv-loop μ-loop
-add-p c = search needs
+add-place : tie.Need-add-place Inv-loop μ-loop
+add-place c = search needs
 
 loop-less : tie.Need-loop-less Inv-loop μ-loop
 loop-less c = search needs
@@ -51,12 +51,12 @@ loop-again c =
     let a = h .before .args in (
       search needs,
       omega (arith, c .number .ensures, one-le (c .before .sum .result)),
-      distance-turn (a .row .now) (a .word .now) (h .loop .p) (h .loop .count) _ (h .loop .inv .2) (c .number .result) (omega arith) (omega arith)
+      distance-turn (a .row .now) (a .word .now) (h .loop .place) (h .loop .count) _ (h .loop .inv .2) (c .number .result) (omega arith) (omega arith)
           (c .number .ensures ∙ ap one (c .before .sum .ensures)),
     )
 
 returns : tie.Need-returns Inv-loop μ-loop
-returns c = distance-end (c .before .before .args .row .now) (c .before .before .args .word .now) (c .before .loop .p) (c .before .loop .count) _ (c .before .loop .inv .2) (omega arith)
+returns c = distance-end (c .before .before .args .row .now) (c .before .before .args .word .now) (c .before .loop .place) (c .before .loop .count) _ (c .before .loop .inv .2) (omega arith)
 
 pub distance-of-spec : {M : Type 1} → statement M
 distance-of-spec =
@@ -71,7 +71,7 @@ distance-of-spec =
     number-requires
     cast-count
     add-count
-    add-p
+    add-place
     loop-less
     loop-again
     returns)

@@ -1,49 +1,28 @@
--- `block::nearest::nearest`: the voted row is the word, where it passes both tests. Assumes nothing.
-use Rattle.block.proofs.Outcomes.{no-word, too-far, found}
-use borrow.Author.Tests.{not-true, not-false}
+-- `block::nearest::nearest`: a received block fills the row. Assumes nothing.
+use Rattle.block.proofs.Outcomes.{whole-row}
+use Rattle.block.specs.Nearest.{Searched}
+use mathlib.Core.List.{List}
+use mathlib.Core.Bool.{Bool}
+use mathlib.Core.Path.{subst, _∙_}
 use borrow.Author.Needs.{needs}
 use Rattle.block.proofs.nearest.nearest.Statement.{statement}
 use Rattle.block.proofs.nearest.nearest.Tie as tie
 
-vote-requires : tie.Need-vote-requires
-vote-requires c κs = search needs
+slice-aggregate-unpack : tie.Need-slice-aggregate-unpack
+slice-aggregate-unpack c = search needs
 
-is-code-word-requires : tie.Need-is-code-word-requires
-is-code-word-requires c κs = search needs
+unpack-requires : tie.Need-unpack-requires
+unpack-requires c κs = search needs
+
+search-requires : tie.Need-search-requires
+search-requires c κs = search needs
 
 returns : tie.Need-returns
 returns c =
-    let v = c .before .before .before in
-    no-word (v .before .args .row .now) (v .vote .result) (c .before .is-code-word .result) (v .before .pre) (v .vote .ensures) (c .before .is-code-word .ensures) (not-true _ (c .if1 .taken))
-
-distance-of-requires : tie.Need-distance-of-requires
-distance-of-requires c κs = search needs
-
-returns-2 : tie.Need-returns-2
-returns-2 c =
-    let w = c .before .before .before .before in
-    let v = w .before .before in
-    too-far (v .before .args .row .now) (v .vote .result) (w .is-code-word .result) (v .before .pre) (v .vote .ensures) (w .is-code-word .ensures)
-    (c .before .distance-of .result) (c .before .distance-of .ensures) (c .if2 .taken)
-
-cast-count : tie.Need-cast-count
-cast-count c = search needs
-
-returns-3 : tie.Need-returns-3
-returns-3 c =
-    let w = c .before .before .before .before in
-    let v = w .before .before in
-    found (v .before .args .row .now) (v .vote .result) (w .is-code-word .result) (v .before .pre) (v .vote .ensures) (w .is-code-word .ensures)
-    (c .before .distance-of .result) (c .before .distance-of .ensures) (c .if2 .left) (not-false _ (c .before .before .before .if1 .left))
+    let u = c .before .before .before in
+    let s = u .before .before .before in
+    let r = c .search .result in
+    subst (λ (row : List Bool). Searched row (r .near) (r .word) (r .count)) (u .unpack .ensures ∙ whole-row (s .args .received .now) (s .pre)) (c .search .ensures)
 
 pub nearest-spec : {M : Type 1} → statement M
-nearest-spec =
-    tie.close
-    (tie.spec
-    vote-requires
-    is-code-word-requires
-    returns
-    distance-of-requires
-    returns-2
-    cast-count
-    returns-3)
+nearest-spec = tie.close (tie.spec slice-aggregate-unpack unpack-requires search-requires returns)

@@ -1,30 +1,35 @@
--- `block::rows::unpack`: the places below p hold the block's bits. Assumes nothing.
-use Rattle.block.specs.Bytes.{bitOf, rowOf}
-use Rattle.gf2.proofs.Lists.{Filled, filled-more, row-filled}
-use lib.ListN.{length, getD, length-set, length-replicate}
-use lib.Dec.{lit≤}
+-- `block::rows::unpack`: the places below p hold the bits of the bytes, the rest is as it was. Assumes nothing.
+use Rattle.block.proofs.Bytes.{length-rowOf, getD-rowOf}
+use Rattle.block.specs.Bytes.{rowOf}
+use Rattle.gf2.proofs.Lists.{front-turn}
+use lib.Seq.{take-all}
+use lib.ListN.{length, take, drop, length-set}
 use borrow.Author.Needs.{needs}
 use native.Mathlib.Omega.{arith}
-use Prim.Native.Nat.{_≤_, _-_, _*_, _/_, _%_}
+use Prim.Native.Nat.{_≤_, _-_, _*_}
+use mathlib.Core.List.{_++_}
 use mathlib.Core.Bool.{false}
-use mathlib.Core.Path.{_≡_, _∙_}
+use mathlib.Core.Path.{_≡_, refl, sym, _∙_}
 use Rattle.block.proofs.rows.unpack.Statement.{statement}
 use Rattle.block.proofs.rows.unpack.Tie as tie
 
 abbrev Inv-loop : tie.InvT-loop
-Inv-loop bytes row₀ p₀ row p = (p ≤ 272) × (length row ≡ 272) × Filled false (λ i. bitOf (getD bytes (i / 8) 0) (i % 8)) row p
+Inv-loop bytes row₀ places p₀ row p = (p ≤ places) × (length row ≡ length row₀) × (row ≡ take p (rowOf bytes) ++ drop p row₀)
 
 abbrev μ-loop : tie.MeasureT-loop
-μ-loop bytes row₀ p₀ row p = 272 - p
+μ-loop bytes row₀ places p₀ row p = places - p
+
+mul-places : tie.Need-mul-places Inv-loop μ-loop
+mul-places c = search needs
 
 loop-holds : tie.Need-loop-holds Inv-loop μ-loop
-loop-holds c = (lit≤ tt, length-replicate 272 false, λ i l. absurd (omega arith))
+loop-holds c = (search needs, refl, refl)
 
 bit-at-requires : tie.Need-bit-at-requires Inv-loop μ-loop
 bit-at-requires c κs = search needs
 
-array-write-row : tie.Need-array-write-row Inv-loop μ-loop
-array-write-row c = search needs
+slice-write-row : tie.Need-slice-write-row Inv-loop μ-loop
+slice-write-row c = search needs
 
 add-p : tie.Need-add-p Inv-loop μ-loop
 add-p c = search needs
@@ -35,17 +40,22 @@ loop-less c = search needs
 loop-again : tie.Need-loop-again Inv-loop μ-loop
 loop-again c =
     let h = c .before .before in
-    let bytes = h .before .before .args .bytes .now in (
+    let a = h .before .before .before .args in (
       search needs,
       length-set (h .loop .row) (h .loop .p) (c .bit-at .result) ∙ h .loop .inv .1,
-      filled-more false (λ i. bitOf (getD bytes (i / 8) 0) (i % 8)) (h .loop .row) (h .loop .p) (c .bit-at .result) (omega arith) (c .bit-at .ensures) (h .loop .inv .2),
+      front-turn (rowOf (a .bytes .now)) (a .row .now) (h .loop .row) (h .loop .p) (c .bit-at .result) false (omega (arith, length-rowOf (a .bytes .now))) (omega arith)
+          (c .bit-at .ensures ∙ sym (getD-rowOf (a .bytes .now) (h .loop .p) (omega arith))) (h .loop .inv .2),
     )
 
+same-length : tie.Need-same-length Inv-loop μ-loop
+same-length c = search needs
+
 returns : tie.Need-returns Inv-loop μ-loop
-unfolding rowOf
 returns c =
-    let bytes = c .before .before .before .args .bytes .now in
-    row-filled (λ i. bitOf (getD bytes (i / 8) 0) (i % 8)) (c .before .loop .row) (8 * length bytes) (c .before .loop .p) (omega arith) (omega arith) (c .before .loop .inv .2)
+    let l = c .before in
+    let a = l .before .before .before .args in
+    let done : l .loop .p ≡ 8 * length (a .bytes .now) = omega arith in
+    l .loop .inv .2 ∙ (λ i. take-all (l .loop .p) (rowOf (a .bytes .now)) (omega (arith, length-rowOf (a .bytes .now))) i ++ drop (done i) (a .row .now))
 
 pub unpack-spec : {M : Type 1} → statement M
 unpack-spec =
@@ -53,10 +63,12 @@ unpack-spec =
     (tie.spec
     Inv-loop
     μ-loop
+    mul-places
     loop-holds
     bit-at-requires
-    array-write-row
+    slice-write-row
     add-p
     loop-less
     loop-again
+    same-length
     returns)
