@@ -11,7 +11,7 @@ use lib.ListN.{length, getD, take, drop}
 use lib.Seq.{ext-getD, getD-take, getD-drop, length-take-le}
 use Rattle.gf2.proofs.Lists.{Filled, length-rowFrom, getD-rowFrom}
 use Rattle.code.specs.Code.{one}
-use Rattle.block.specs.Bytes.{bitOf, rowOf, packed}
+use Rattle.block.specs.Bytes.{AreBytes, bitOf, rowOf, packed}
 
 pub one-le : (b : Bool) → one b ≤ 1
 one-le true = omega arith
@@ -74,12 +74,8 @@ bits-once (suc n) x y hx hy h =
     lowest true t e half = omega (arith, eqb-true (x / 2 ^ 0 % 2) 1 t, eqb-true (y / 2 ^ 0 % 2) 1 (sym e ∙ t))
     lowest false t e half = omega (arith, eqb-false (x / 2 ^ 0 % 2) 1 t, eqb-false (y / 2 ^ 0 % 2) 1 (sym e ∙ t))
 
-pub Bytes : List ℕ → Type 0
-Bytes bytes = (k : ℕ) → getD bytes k 0 < 256
-
 -- A ROW DETERMINES ITS BYTES
-pub row-once : (xs ys : List ℕ) → Bytes xs → Bytes ys → length xs ≡ length ys → rowOf xs ≡ rowOf ys → xs ≡ ys
-unfolding Bytes
+pub row-once : (xs ys : List ℕ) → AreBytes xs → AreBytes ys → length xs ≡ length ys → rowOf xs ≡ rowOf ys → xs ≡ ys
 row-once xs ys bx by l e = ext-getD 0 xs ys l (λ k h. bits-once 8 (getD xs k 0) (getD ys k 0) (bx k) (by k) (λ j g. same k j h g))
   where
     same : (k j : ℕ) → k < length xs → j < 8 → bitOf (getD xs k 0) j ≡ bitOf (getD ys k 0) j

@@ -10,11 +10,11 @@ use Rattle.answers.specs.declared.Answer.{Answer}
 use Rattle.answers.proofs.Determined.{paper-once}
 use Rattle.code.specs.Code.{distance}
 use Rattle.code.proofs.Majority.{only-word}
-use Rattle.block.specs.Bytes.{rowOf}
+use Rattle.block.specs.Bytes.{AreBytes, rowOf}
 use Rattle.block.specs.Nearest.{Near}
 use Rattle.block.specs.Corrector.{WrongLength, NoCodeWord, Corrects}
 use Rattle.block.specs.Blocks.{CheckRight, Reads, Writes}
-use Rattle.block.proofs.Bytes.{Bytes, row-once, length-rowOf}
+use Rattle.block.proofs.Bytes.{row-once, length-rowOf}
 
 -- an outcome: the output's bytes, the answer and the count
 pub record Outcome : Type 0 where
@@ -40,7 +40,7 @@ module _ (room : ℕ) (received before : List ℕ) (a b : Outcome) where
       let word : u ≡ v = only-word (rowOf received) u v (omega (arith, length-rowOf received)) (m .code) (n .code) (m .near) (n .near) in
       (word, m .counts ∙ ap (distance (rowOf received)) word ∙ sym (n .counts))
 
-module _ (received before : List ℕ) (a b : Outcome) (ba : Bytes (a .bytes)) (bb : Bytes (b .bytes)) where
+module _ (received before : List ℕ) (a b : Outcome) (ba : AreBytes (a .bytes)) (bb : AreBytes (b .bytes)) where
   -- THE CORRECTOR'S PROMISE DETERMINES THE ANSWER, THE COUNT AND EVERY BYTE
   pub corrects-once : Corrects received before (a .bytes) (a .answer) (a .count) → Corrects received before (b .bytes) (b .answer) (b .count) → Same a b
   unfolding Same
@@ -82,7 +82,7 @@ module _ (received before : List ℕ) (a b : Outcome) (ba : Bytes (a .bytes)) (b
       (row-once (a .bytes) (b .bytes) ba bb (u .long ∙ sym (v .long)) (u .given ∙ ap (take 176) (once .0) ∙ sym (v .given)), paper-once _ _ (u .answers ∙ sym (v .answers)), once .1)
 
 -- THE BLOCK WRITER'S PROMISE DETERMINES THE ANSWER AND EVERY BYTE
-pub writes-once : (information before xs ys : List ℕ) (a b : Answer) → Bytes xs → Bytes ys → Writes information before xs a → Writes information before ys b → (xs ≡ ys) × (a ≡ b)
+pub writes-once : (information before xs ys : List ℕ) (a b : Answer) → AreBytes xs → AreBytes ys → Writes information before xs a → Writes information before ys b → (xs ≡ ys) × (a ≡ b)
 writes-once information before xs ys a b bx by (inl u) (inl v) = (u .same ∙ sym (v .same), paper-once a b (u .answers ∙ sym (v .answers)))
 writes-once information before xs ys a b bx by (inl u) (inr v) = absurd (u .wrong (v .sized))
 writes-once information before xs ys a b bx by (inr u) (inl v) = absurd (v .wrong (u .sized))
