@@ -1,0 +1,282 @@
+//! The probe's notation (docs/PROBE.md): arguments read from a line, and fields put into one.
+
+use crate::channel::{Channel, Phase};
+use crate::group::{Group, Incoming};
+use crate::message::LARGEST_MESSAGE;
+use crate::survey::{Counts, Summary};
+
+/// More bytes than this make no case.
+pub const LONGEST_CASE: usize = 262_143;
+/// The most bytes of an argument of the block commands.
+pub const LONGEST_BLOCK_ARGUMENT: usize = 8192;
+
+const BYTE: u64 = 1 << 8;
+const SHORT: u64 = 1 << 16;
+const WORD: u64 = 1 << 32;
+
+const PHASES: [(&str, Phase); 3] = [
+    ("waiting", Phase::Waiting),
+    ("ready", Phase::Ready),
+    ("gathering", Phase::Gathering),
+];
+
+/// The arguments not read yet. Each reading gives nothing where the argument is missing or cannot
+/// be read.
+pub struct Arguments<'a> {
+    fields: std::slice::Iter<'a, &'a [u8]>,
+}
+
+impl<'a> Arguments<'a> {
+    pub fn new(fields: &'a [&'a [u8]]) -> Arguments<'a> {
+        Arguments {
+            fields: fields.iter(),
+        }
+    }
+
+    pub fn end(&self) -> Option<()> {
+        self.fields.as_slice().is_empty().then_some(())
+    }
+
+    pub fn bytes(&mut self) -> Option<Vec<u8>> {
+        let field = self.fields.next()?;
+        if *field == b"." {
+            return Some(Vec::new());
+        }
+        if field.is_empty() || field.len() % 2 == 1 {
+            return None;
+        }
+        field
+            .chunks(2)
+            .map(|pair| Some(16 * digit(pair[0], 16)? + digit(pair[1], 16)?))
+            .collect()
+    }
+
+    pub fn block_bytes(&mut self) -> Option<Vec<u8>> {
+        self.bytes()
+            .filter(|bytes| bytes.len() <= LONGEST_BLOCK_ARGUMENT)
+    }
+
+    fn number(&mut self, bound: u64) -> Option<u64> {
+        let field = self.fields.next()?;
+        if field.is_empty() {
+            return None;
+        }
+        field.iter().try_fold(0, |value, byte| {
+            let value = 10 * value + u64::from(digit(*byte, 10)?);
+            (value < bound).then_some(value)
+        })
+    }
+
+    pub fn byte(&mut self) -> Option<u8> {
+        self.number(BYTE).map(|number| number as u8)
+    }
+
+    pub fn short(&mut self) -> Option<u16> {
+        self.number(SHORT).map(|number| number as u16)
+    }
+
+    pub fn word(&mut self) -> Option<u32> {
+        self.number(WORD).map(|number| number as u32)
+    }
+
+    pub fn flag(&mut self) -> Option<bool> {
+        match *self.fields.next()? {
+            b"0" => Some(false),
+            b"1" => Some(true),
+            _ => None,
+        }
+    }
+
+    fn binary64(&mut self) -> Option<f64> {
+        let field = self.fields.next()?;
+        if field.len() != 16 {
+            return None;
+        }
+        let bits = field.iter().try_fold(0, |bits, byte| {
+            Some(bits << 4 | u64::from(digit(*byte, 16)?))
+        });
+        bits.map(f64::from_bits)
+    }
+
+    pub fn channel(&mut self) -> Option<Channel> {
+        let bytes = self
+            .bytes()
+            .filter(|bytes| bytes.len() == LARGEST_MESSAGE)?;
+        let length = self.word()?;
+        let name = self.fields.next()?;
+        let (_, phase) = PHASES.iter().find(|phase| phase.0.as_bytes() == *name)?;
+        Some(Channel {
+            bytes,
+            length,
+            phase: *phase,
+            expected: self.byte()?,
+        })
+    }
+
+    pub fn group(&mut self) -> Option<Group> {
+        let number = self.short()?;
+        let gathering = match *self.fields.next()? {
+            b"idle" => false,
+            b"gathering" => true,
+            _ => return None,
+        };
+        Some(Group {
+            number,
+            gathering,
+            held: self.word()?,
+            messages: self.byte()?,
+            ci: self.byte()?,
+        })
+    }
+
+    pub fn incoming(&mut self) -> Option<Incoming> {
+        Some(Incoming {
+            ri: self.byte()?,
+            ci: self.byte()?,
+            first: self.flag()?,
+            last: self.flag()?,
+            number: self.short()?,
+            com: self.flag()?,
+            data: self.bytes()?,
+        })
+    }
+
+    pub fn counts(&mut self) -> Option<Counts> {
+        Some(Counts {
+            channel: self.byte()?,
+            slots: self.word()?,
+            read: self.word()?,
+            clean: self.word()?,
+            bits: self.word()?,
+            noword: self.word()?,
+            check: self.word()?,
+            missing: self.word()?,
+        })
+    }
+
+    pub fn summary(&mut self) -> Option<Summary> {
+        Some(Summary {
+            mean_exists: self.flag()?,
+            mean: self.binary64()?,
+            share_exists: self.flag()?,
+            share: self.binary64()?,
+        })
+    }
+}
+
+fn digit(byte: u8, base: u32) -> Option<u8> {
+    char::from(byte).to_digit(base).map(|digit| digit as u8)
+}
+
+/// A line being written: an answer, or a case. Each call puts one field, or one record's fields,
+/// behind a tab.
+pub struct Line(Vec<u8>);
+
+impl Line {
+    pub fn new(first: &str) -> Line {
+        Line(first.as_bytes().to_vec())
+    }
+
+    /// The answer's number, or the name of the success.
+    pub fn answer<T>(success: &str, result: &Result<T, u8>) -> Line {
+        match result {
+            Ok(_) => Line::new(success),
+            Err(answer) => Line::refused(*answer),
+        }
+    }
+
+    pub fn refused(answer: u8) -> Line {
+        Line::new(&answer.to_string())
+    }
+
+    pub fn done(self) -> Vec<u8> {
+        self.0
+    }
+
+    pub fn text(mut self, text: &str) -> Line {
+        self.0.push(b'\t');
+        self.0.extend(text.as_bytes());
+        self
+    }
+
+    pub fn number(self, number: impl Into<u64>) -> Line {
+        self.text(&number.into().to_string())
+    }
+
+    pub fn count(self, count: usize) -> Line {
+        self.number(count as u64)
+    }
+
+    pub fn bytes(mut self, bytes: &[u8]) -> Line {
+        if bytes.is_empty() {
+            return self.text(".");
+        }
+        self.0.push(b'\t');
+        for byte in bytes {
+            self.0
+                .extend([hexadecimal(byte >> 4), hexadecimal(byte & 15)]);
+        }
+        self
+    }
+
+    /// The bits as they stand: what an argument needs, also for one that is no number.
+    pub fn binary64_bits(self, number: f64) -> Line {
+        self.text(&format!("{:016x}", number.to_bits()))
+    }
+
+    fn binary64(self, number: f64) -> Line {
+        if number.is_nan() {
+            return self.text(&"n".repeat(16));
+        }
+        self.binary64_bits(number)
+    }
+
+    pub fn channel(self, channel: &Channel) -> Line {
+        let named = PHASES.iter().find(|phase| phase.1 == channel.phase);
+        let name = named.expect("every phase has a name").0;
+        self.bytes(&channel.bytes)
+            .number(channel.length)
+            .text(name)
+            .number(channel.expected)
+    }
+
+    pub fn group(self, group: &Group) -> Line {
+        self.number(group.number)
+            .text(if group.gathering { "gathering" } else { "idle" })
+            .number(group.held)
+            .number(group.messages)
+            .number(group.ci)
+    }
+
+    pub fn incoming(self, message: &Incoming) -> Line {
+        self.number(message.ri)
+            .number(message.ci)
+            .number(message.first)
+            .number(message.last)
+            .number(message.number)
+            .number(message.com)
+            .bytes(&message.data)
+    }
+
+    pub fn counts(self, counts: &Counts) -> Line {
+        self.number(counts.channel)
+            .number(counts.slots)
+            .number(counts.read)
+            .number(counts.clean)
+            .number(counts.bits)
+            .number(counts.noword)
+            .number(counts.check)
+            .number(counts.missing)
+    }
+
+    pub fn summary(self, summary: &Summary) -> Line {
+        self.number(summary.mean_exists)
+            .binary64(summary.mean)
+            .number(summary.share_exists)
+            .binary64(summary.share)
+    }
+}
+
+fn hexadecimal(digit: u8) -> u8 {
+    b"0123456789abcdef"[usize::from(digit)]
+}
