@@ -5,6 +5,7 @@
 
 mod answers;
 mod block;
+mod cases;
 mod channel;
 mod corrector;
 mod decimal;
@@ -13,6 +14,7 @@ mod group;
 mod message;
 mod notation;
 mod probe;
+mod random;
 mod rows;
 mod survey;
 
@@ -28,6 +30,12 @@ fn main() -> ExitCode {
     let words: Vec<&str> = arguments.iter().map(String::as_str).collect();
     let result = match words[..] {
         ["answer"] => answer_all(),
+        ["cases", word, count, seed] => match (count.parse(), seed.parse()) {
+            (Ok(count), Ok(seed)) if !cases::makers(word).is_empty() => {
+                write_cases(word, count, seed)
+            }
+            _ => return refuse(),
+        },
         _ => return refuse(),
     };
     match result {
@@ -42,6 +50,10 @@ fn main() -> ExitCode {
 fn refuse() -> ExitCode {
     eprintln!("{USAGE}");
     ExitCode::from(2)
+}
+
+fn write_cases(word: &str, count: usize, seed: u64) -> io::Result<()> {
+    cases::write(word, count, seed, &mut BufWriter::new(io::stdout().lock()))
 }
 
 /// One answer a line. A last line without a line feed is a case too.

@@ -1,0 +1,205 @@
+//! Lines that are no cases: a good case with something done to it that no reading forgives.
+
+use super::{Case, MAKERS};
+use crate::notation::{Line, LONGEST_BLOCK_ARGUMENT, LONGEST_CASE};
+use crate::random::Random;
+
+/// None of these can be read as bytes, number, flag, name of a phase or binary64.
+const UNREADABLE: [&[u8]; 18] = [
+    b"",
+    b" ",
+    b"x",
+    b"-1",
+    b"+1",
+    b"0x10",
+    b"g0",
+    b"0g",
+    b"1 ",
+    b" 1",
+    b"1.0",
+    b"..",
+    b"-",
+    b"idle ",
+    b"\x00",
+    b"\x80\xFF",
+    b"1\r",
+    b"18446744073709551616x",
+];
+
+/// Numbers no parameter of the notation can hold and no byte argument has room for: an odd number
+/// of digits.
+const TOO_GREAT: [&[u8]; 4] = [
+    b"18446744073709551616000",
+    b"42949672960",
+    b"99999999999",
+    b"340282366920938463463374607431768211456",
+];
+
+pub fn bad(random: &Random, index: usize) -> Vec<Case> {
+    let round = index / 8;
+    vec![match index % 8 {
+        0 => argument_unreadable(random),
+        1 => argument_missing(random),
+        2 => argument_too_many(random),
+        3 => other_command(random, round),
+        4 => beyond_its_parameter(round),
+        5 => odd_digits(random),
+        6 => number_too_great(random),
+        _ => over_a_limit(random, round),
+    }]
+}
+
+/// A good case, cut at its tabs. Not of the command without arguments where one is needed.
+fn good_fields(random: &Random, least: usize) -> Vec<Vec<u8>> {
+    loop {
+        let (_, maker) = random.pick(&MAKERS);
+        let index = random.below(1000);
+        let case = maker(random, index).swap_remove(0);
+        let fields: Vec<Vec<u8>> = case
+            .split(|byte| *byte == b'\t')
+            .map(<[u8]>::to_vec)
+            .collect();
+        if fields.len() > least && case.len() < LONGEST_CASE / 2 {
+            return fields;
+        }
+    }
+}
+
+fn argument_unreadable(random: &Random) -> Case {
+    let mut fields = good_fields(random, 1);
+    let place = random.between(1, fields.len() - 1);
+    fields[place] = random.pick(&UNREADABLE).to_vec();
+    fields.join(&b'\t')
+}
+
+fn argument_missing(random: &Random) -> Case {
+    let mut fields = good_fields(random, 1);
+    match random.flag() {
+        true => fields.truncate(random.between(1, fields.len() - 1)),
+        false => drop(fields.remove(random.between(1, fields.len() - 1))),
+    }
+    fields.join(&b'\t')
+}
+
+fn argument_too_many(random: &Random) -> Case {
+    let mut fields = good_fields(random, 0);
+    let place = random.between(1, fields.len());
+    let more = random.pick(&[&b""[..], b".", b"0", b"1", b"00"]);
+    match random.flag() {
+        true => fields.insert(place, more.to_vec()),
+        false => fields.push(more.to_vec()),
+    }
+    fields.join(&b'\t')
+}
+
+fn other_command(random: &Random, round: usize) -> Case {
+    // With an argument: one field joined by spaces would be the case itself.
+    let mut fields = good_fields(random, 1);
+    fields[0] = match round % 10 {
+        0 => Vec::new(),
+        1 => fields[0].to_ascii_uppercase(),
+        2 => [&fields[0][..], b" "].concat(),
+        3 => [b" ", &fields[0][..]].concat(),
+        4 => fields[0][1..].to_vec(),
+        5 => fields[0][..fields[0].len() - 1].to_vec(),
+        6 => b"bad case".to_vec(),
+        7 => [&fields[0][..], b"\0"].concat(),
+        8 => return fields.join(&b' '),
+        _ => return Vec::new(),
+    };
+    fields.join(&b'\t')
+}
+
+/// Each parameter just above what it can hold.
+fn beyond_its_parameter(round: usize) -> Case {
+    const LINES: [&str; 34] = [
+        "khz\t65536",
+        "khz\t4294967297",
+        "khz\t18446744073709551617",
+        "channel\t4294967296",
+        "channel\t4295054896",
+        "new-group\t65536",
+        "write-message\t256\t0\t0\t0\t0\t0\t0\t0\t.\t.",
+        "write-message\t0\t256\t0\t0\t0\t0\t0\t0\t.\t.",
+        "write-message\t0\t0\t2\t0\t0\t0\t0\t0\t.\t.",
+        "write-message\t0\t0\t0\t2\t0\t0\t0\t0\t.\t.",
+        "write-message\t0\t0\t0\t0\t65536\t0\t0\t0\t.\t.",
+        "write-message\t0\t0\t0\t0\t0\t2\t0\t0\t.\t.",
+        "write-message\t0\t0\t0\t0\t0\t0\t2\t0\t.\t.",
+        "write-message\t0\t0\t0\t0\t0\t0\t0\t256\t.\t.",
+        "write-group\t65536\t0\t0\t0\t0\t.\t.",
+        "write-group\t0\t256\t0\t0\t0\t.\t.",
+        "write-group\t0\t0\t2\t0\t0\t.\t.",
+        "write-group\t0\t0\t0\t256\t0\t.\t.",
+        "write-group\t0\t0\t0\t0\t256\t.\t.",
+        "join\t65536\tidle\t0\t0\t0\t0\t0\t0\t0\t0\t0\t.\t.",
+        "join\t0\twaiting\t0\t0\t0\t0\t0\t0\t0\t0\t0\t.\t.",
+        "join\t0\tidle\t4294967296\t0\t0\t0\t0\t0\t0\t0\t0\t.\t.",
+        "join\t0\tidle\t0\t256\t0\t0\t0\t0\t0\t0\t0\t.\t.",
+        "join\t0\tidle\t0\t0\t256\t0\t0\t0\t0\t0\t0\t.\t.",
+        "join\t0\tidle\t0\t0\t0\t256\t0\t0\t0\t0\t0\t.\t.",
+        "join\t0\tidle\t0\t0\t0\t0\t256\t0\t0\t0\t0\t.\t.",
+        "join\t0\tidle\t0\t0\t0\t0\t0\t0\t2\t0\t0\t.\t.",
+        "join\t0\tidle\t0\t0\t0\t0\t0\t0\t0\t0\t2\t.\t.",
+        "summary\t256\t0\t0\t0\t0\t0\t0\t0",
+        "summary\t1\t4294967296\t0\t0\t0\t0\t0\t0",
+        "summary\t1\t0\t0\t0\t0\t0\t0\t4294967296",
+        "export\t1\t0\t0\t0\t0\t0\t0\t0\t0\t000000000000000\t0\t0000000000000000\t.",
+        "export\t1\t0\t0\t0\t0\t0\t0\t0\t0\t0000000000000000\t0\t00000000000000000\t.",
+        "export\t1\t0\t0\t0\t0\t0\t0\t0\t2\t0000000000000000\t0\t0000000000000000\t.",
+    ];
+    LINES[round % LINES.len()].as_bytes().to_vec()
+}
+
+/// A byte argument with half a byte too many: the last one of a block command or of the log.
+fn odd_digits(random: &Random) -> Case {
+    let name = random.pick(&["correct", "read-block", "write-block"]);
+    let length = random.between(0, 40);
+    let mut case = Line::new(name)
+        .bytes(&random.bytes(34))
+        .bytes(&random.bytes(length + 1))
+        .done();
+    case.pop();
+    case
+}
+
+fn number_too_great(random: &Random) -> Case {
+    let mut fields = good_fields(random, 1);
+    let place = random.between(1, fields.len() - 1);
+    fields[place] = random.pick(&TOO_GREAT).to_vec();
+    fields.join(&b'\t')
+}
+
+/// States of another size, block arguments of 8,193 bytes, now and then a line beyond all bounds.
+fn over_a_limit(random: &Random, round: usize) -> Case {
+    let state = |length: usize| Line::new("step").bytes(&vec![0; length]).number(0u8);
+    match round % 12 {
+        0 => state(259)
+            .text("waiting")
+            .number(0u8)
+            .bytes(&[0; 22])
+            .done(),
+        1 => state(261)
+            .text("waiting")
+            .number(0u8)
+            .bytes(&[0; 22])
+            .done(),
+        2 => state(260).text("idle").number(0u8).bytes(&[0; 22]).done(),
+        3 => state(260)
+            .text("ready")
+            .number(256u32)
+            .bytes(&[0; 22])
+            .done(),
+        4 => state(0).text("waiting").number(0u8).bytes(&[0; 22]).done(),
+        5 => state(260).text("Ready").number(0u8).bytes(&[0; 22]).done(),
+        11 if round % 36 == 11 => Line::new("log")
+            .bytes(&random.bytes(LONGEST_CASE / 2 + 100))
+            .done(),
+        _ => {
+            let name = random.pick(&["correct", "read-block", "write-block"]);
+            let long = vec![0; LONGEST_BLOCK_ARGUMENT + 1];
+            let (input, output) = random.pick(&[(&long[..], &[0; 34][..]), (&[0; 34], &long)]);
+            Line::new(name).bytes(input).bytes(output).done()
+        }
+    }
+}

@@ -1,0 +1,409 @@
+//! Cases for the group state and the group writer.
+
+use super::channel::{fill, output_around, over_width, EDGE_NUMBERS};
+use super::Case;
+use crate::block::INFORMATION_BYTES;
+use crate::group::{Group, Incoming, MOST_MESSAGES};
+use crate::message::*;
+use crate::notation::Line;
+use crate::random::Random;
+
+const EDGE_GROUPS: [usize; 14] = [
+    0,
+    1,
+    16,
+    254,
+    255,
+    256,
+    509,
+    510,
+    511,
+    765,
+    3570,
+    3571,
+    3824,
+    LARGEST_GROUP,
+];
+
+/// Messages chained through one state and one buffer.
+struct Script {
+    group: Group,
+    buffer: Vec<u8>,
+    cases: Vec<Case>,
+}
+
+impl Script {
+    fn from(random: &Random, group: Group) -> Script {
+        let length = random.pick(&[3825, 3825, 3825, 3826, 5000]);
+        Script {
+            group,
+            buffer: random.marked(length),
+            cases: Vec::new(),
+        }
+    }
+
+    fn feed(&mut self, message: &Incoming) {
+        let line = Line::new("join")
+            .group(&self.group)
+            .incoming(message)
+            .bytes(&self.buffer);
+        self.cases.push(line.done());
+        self.group.join(message, &mut self.buffer);
+    }
+
+    fn feed_all(mut self, messages: &[Incoming]) -> Vec<Case> {
+        for message in messages {
+            self.feed(message);
+        }
+        self.cases
+    }
+}
+
+fn number(random: &Random) -> u16 {
+    match random.flag() {
+        true => random.pick(&EDGE_NUMBERS),
+        false => random.below(1 + usize::from(LARGEST_NUMBER)) as u16,
+    }
+}
+
+fn small_data(random: &Random) -> Vec<u8> {
+    let size = random.pick(&[0, 1, 2, 17, 254, LARGEST_DATA, random.below(256)]);
+    random.marked(size)
+}
+
+/// The messages of one group, CI stepping on, First and Last at the ends.
+fn messages_of(random: &Random, number: u16, parts: &[Vec<u8>]) -> Vec<Incoming> {
+    let ci = random.below(4);
+    let message = |(i, part): (usize, &Vec<u8>)| Incoming {
+        ri: random.below(4) as u8,
+        ci: ((ci + i) % 4) as u8,
+        first: i == 0,
+        last: i + 1 == parts.len(),
+        number,
+        com: false,
+        data: part.clone(),
+    };
+    parts.iter().enumerate().map(message).collect()
+}
+
+fn some_group(random: &Random, number: u16) -> Vec<Incoming> {
+    let count = random.pick(&[1, 2, 3, 4, 6]);
+    let parts: Vec<Vec<u8>> = (0..count).map(|_| small_data(random)).collect();
+    messages_of(random, number, &parts)
+}
+
+fn good_state(random: &Random, number: u16) -> Group {
+    if random.one_in(4) {
+        return Group::idle(number);
+    }
+    let messages = random.between(1, usize::from(MOST_MESSAGES));
+    let most = LARGEST_DATA * messages;
+    let held = random.pick(&[0, 1, most - 1, most, random.below(most)]) as u32;
+    Group {
+        number,
+        gathering: true,
+        held,
+        messages: messages as u8,
+        ci: random.below(4) as u8,
+    }
+}
+
+/// A message the state may well join on.
+fn fitting(random: &Random, group: &Group) -> Incoming {
+    Incoming {
+        ri: random.below(4) as u8,
+        ci: (group.ci % 4 + 1) % 4,
+        first: random.one_in(5),
+        last: random.one_in(3),
+        number: group.number,
+        com: false,
+        data: small_data(random),
+    }
+}
+
+pub fn new_group(random: &Random, index: usize) -> Vec<Case> {
+    let edges = [0, 1, 511, 512, 16382, 16383, 16384, 16385, 32768, 65535];
+    let number = match edges.get(index) {
+        Some(edge) => *edge,
+        None if random.flag() => random.next() as u16,
+        None => random.next() as u16 % 16384,
+    };
+    vec![Line::new("new-group").number(number).done()]
+}
+
+pub fn join(random: &Random, index: usize) -> Vec<Case> {
+    let round = index / 14;
+    let number = number(random);
+    match index % 14 {
+        0 => undisturbed(random, number),
+        1 => lost(random, number),
+        2 => repeated(random, number),
+        3 => interleaved(random, number),
+        4 => first_in_the_middle(random, number),
+        5 => sixteen_messages(random, number),
+        6 => broken_state(random, number, round),
+        7 => field_outside(random, number, round),
+        8 => buffer_length(random, number),
+        9 => full_group(random, number),
+        10 => edge_group(random, number, round),
+        11 => any_message(random, number),
+        12 => every_ci(random, number),
+        _ => several_faults(random, number),
+    }
+}
+
+fn undisturbed(random: &Random, number: u16) -> Vec<Case> {
+    let mut messages = some_group(random, number);
+    messages.extend(some_group(random, number));
+    let group = good_state(random, number);
+    Script::from(random, group).feed_all(&messages)
+}
+
+fn lost(random: &Random, number: u16) -> Vec<Case> {
+    let mut messages = some_group(random, number);
+    messages.remove(random.below(messages.len()));
+    messages.extend(some_group(random, number));
+    let group = good_state(random, number);
+    Script::from(random, group).feed_all(&messages)
+}
+
+/// Every message twice, or one of them.
+fn repeated(random: &Random, number: u16) -> Vec<Case> {
+    let messages = some_group(random, number);
+    let place = random.below(messages.len() + 1);
+    let mut with_repeats = Vec::new();
+    for (i, message) in messages.iter().enumerate() {
+        with_repeats.push(message.clone());
+        if i == place || place == messages.len() {
+            let ri = message.ri.saturating_sub(1);
+            with_repeats.push(Incoming {
+                ri,
+                ..message.clone()
+            });
+        }
+    }
+    Script::from(random, Group::idle(number)).feed_all(&with_repeats)
+}
+
+/// Messages of another service and commands between those of the group.
+fn interleaved(random: &Random, number: u16) -> Vec<Case> {
+    let messages = some_group(random, number);
+    let mut mixed = Vec::new();
+    for message in &messages {
+        let mut other = message.clone();
+        match random.below(4) {
+            0 => other.com = true,
+            1 => other.number = (number + 1) % 16384,
+            2 => other.number = number ^ 512,
+            _ => other.number = LARGEST_NUMBER - number,
+        }
+        other.first = random.flag();
+        mixed.push(other);
+        mixed.push(message.clone());
+    }
+    Script::from(random, Group::idle(number)).feed_all(&mixed)
+}
+
+/// A First drops what was gathered, whatever its CI.
+fn first_in_the_middle(random: &Random, number: u16) -> Vec<Case> {
+    let mut messages = some_group(random, number);
+    messages.pop();
+    let mut second = some_group(random, number);
+    second[0].ci = random.below(4) as u8;
+    messages.extend(second);
+    Script::from(random, Group::idle(number)).feed_all(&messages)
+}
+
+/// Fifteen messages are joined, the sixteenth is not, and one follows. Mostly twelve have come.
+fn sixteen_messages(random: &Random, number: u16) -> Vec<Case> {
+    let size = random.pick(&[0, 1, 100, 254, 255]);
+    let parts: Vec<Vec<u8>> = (0..17).map(|_| random.bytes(size)).collect();
+    let mut messages = messages_of(random, number, &parts);
+    messages[15].last = random.flag();
+    if random.one_in(4) {
+        messages[15].ci = random.below(4) as u8;
+    }
+    feed_to_the_end(random, &messages)
+}
+
+/// The whole script, or its part from the thirteenth message on.
+fn feed_to_the_end(random: &Random, messages: &[Incoming]) -> Vec<Case> {
+    let mut script = Script::from(random, Group::idle(messages[0].number));
+    script.buffer.truncate(LARGEST_GROUP);
+    let mut cases = script.feed_all(messages);
+    if !random.one_in(6) {
+        cases.drain(..12);
+    }
+    cases
+}
+
+/// Each way a state can be outside its rule; number 0 stands for the case's own.
+const BROKEN_STATES: [(bool, u32, u8, u8); 20] = [
+    (false, 1, 0, 0),
+    (false, u32::MAX, 0, 0),
+    (false, 0, 1, 0),
+    (false, 0, 0, 1),
+    (false, 0, 0, 3),
+    (false, 0, 0, 4),
+    (false, 20, 1, 0),
+    (true, 0, 0, 0),
+    (true, 1, 0, 0),
+    (true, 256, 1, 0),
+    (true, 257, 1, 0),
+    (true, 511, 2, 3),
+    (true, 3826, 15, 0),
+    (true, 0, 16, 0),
+    (true, 100, 16, 0),
+    (true, 100, 255, 0),
+    (true, 100, 1, 4),
+    (true, 100, 15, 255),
+    (true, 65_536, 15, 1),
+    (true, u32::MAX, 15, 1),
+];
+
+fn broken_state(random: &Random, number: u16, round: usize) -> Vec<Case> {
+    let (gathering, held, messages, ci) = BROKEN_STATES[round % BROKEN_STATES.len()];
+    let mut group = Group {
+        number,
+        gathering,
+        held,
+        messages,
+        ci,
+    };
+    // Now and then only the number is wrong, and the message has it too.
+    if random.one_in(6) {
+        group = Group {
+            number: random.pick(&[16384, 65535]),
+            ..good_state(random, number)
+        };
+    }
+    let message = fitting(random, &group);
+    Script::from(random, group).feed_all(&[message])
+}
+
+fn field_outside(random: &Random, number: u16, round: usize) -> Vec<Case> {
+    let group = good_state(random, number);
+    let mut message = fitting(random, &group);
+    match round % 5 {
+        0 => message.ri = random.pick(&[4, 8, 255]),
+        1 => message.ci = random.pick(&[4, 5, 8, 255]),
+        2 => message.number = random.pick(&[16384, number | 16384, 65535]),
+        3 => {
+            let size = random.pick(&[256, 257, 300, 4000]);
+            message.data = random.bytes(size);
+        }
+        _ => message.ci = group.ci + 1 + 4 * random.between(1, 3) as u8,
+    }
+    Script::from(random, group).feed_all(&[message])
+}
+
+fn buffer_length(random: &Random, number: u16) -> Vec<Case> {
+    let group = good_state(random, number);
+    let message = fitting(random, &group);
+    let mut script = Script::from(random, group);
+    let length = random.pick(&[0, 1, 255, 3824, 3824, 3825, 3826, 5000, 20_000]);
+    script.buffer = random.marked(length);
+    script.feed_all(&[message])
+}
+
+/// Fifteen messages of 255 bytes: the greatest group.
+fn full_group(random: &Random, number: u16) -> Vec<Case> {
+    let parts: Vec<Vec<u8>> = (0..15).map(|_| random.bytes(LARGEST_DATA)).collect();
+    feed_to_the_end(random, &messages_of(random, number, &parts))
+}
+
+/// The messages as the group writer cuts them.
+fn edge_group(random: &Random, number: u16, round: usize) -> Vec<Case> {
+    let data = random.bytes(EDGE_GROUPS[round % 10]);
+    let mut parts: Vec<Vec<u8>> = data.chunks(LARGEST_DATA).map(<[u8]>::to_vec).collect();
+    if parts.is_empty() {
+        parts.push(Vec::new());
+    }
+    let messages = messages_of(random, number, &parts);
+    Script::from(random, Group::idle(number)).feed_all(&messages)
+}
+
+fn any_message(random: &Random, number: u16) -> Vec<Case> {
+    let group = good_state(random, number);
+    let message = Incoming {
+        ci: random.below(4) as u8,
+        first: random.flag(),
+        last: random.flag(),
+        com: random.one_in(8),
+        ..fitting(random, &group)
+    };
+    Script::from(random, group).feed_all(&[message])
+}
+
+/// The four CIs against one state, First and not.
+fn every_ci(random: &Random, number: u16) -> Vec<Case> {
+    let group = good_state(random, number);
+    let mut cases = Vec::new();
+    for ci in 0..4 {
+        let message = Incoming {
+            ci,
+            ..fitting(random, &group)
+        };
+        cases.extend(Script::from(random, group.clone()).feed_all(&[message]));
+    }
+    cases
+}
+
+/// The test that comes earlier wins: 10, then 11, then 13, then 8 and 9.
+fn several_faults(random: &Random, number: u16) -> Vec<Case> {
+    let mut group = good_state(random, number);
+    let mut message = fitting(random, &group);
+    if random.flag() {
+        group.ci = random.pick(&[4, 255]);
+    }
+    if random.flag() {
+        message.number = random.pick(&[number ^ 1, 16384]);
+    }
+    if random.flag() {
+        message.com = true;
+    }
+    if random.one_in(3) {
+        message.ri = 4;
+    }
+    if random.flag() {
+        message.ci = (message.ci + 1) % 4;
+    }
+    let mut script = Script::from(random, group);
+    if random.one_in(3) {
+        script.buffer.truncate(3824);
+    }
+    script.feed_all(&[message])
+}
+
+pub fn write_group_case(random: &Random, index: usize) -> Vec<Case> {
+    let mut fill = fill(random);
+    let mut size = random.pick(&[random.below(600), random.below(LARGEST_GROUP + 1)]);
+    match index % 4 {
+        0 => {}
+        1 => size = EDGE_GROUPS[index / 4 % EDGE_GROUPS.len()],
+        2 => {
+            over_width(random, &mut fill, index / 4);
+            size = random.below(300);
+        }
+        _ => size = random.pick(&[0, 255, 256, 3824, 3825, 3826, 4000, 4080]),
+    }
+    let data = random.bytes(size);
+    let output = output_around(random, INFORMATION_BYTES * blocks_for(fill.number, size));
+    vec![Line::new("write-group")
+        .number(fill.number)
+        .number(fill.ri)
+        .number(fill.di)
+        .number(fill.sc)
+        .number(fill.ci)
+        .bytes(&data)
+        .bytes(&output)
+        .done()]
+}
+
+/// How many blocks a group of this size needs.
+fn blocks_for(number: u16, size: usize) -> usize {
+    let header = if number < 512 { 4 } else { 5 };
+    let blocks = |data: usize| (header + data).div_ceil(DATA_BYTES);
+    let whole = size.saturating_sub(1) / LARGEST_DATA;
+    whole * blocks(LARGEST_DATA) + blocks(size - whole * LARGEST_DATA)
+}

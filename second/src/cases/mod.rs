@@ -1,0 +1,84 @@
+//! Cases from a seed: valid, damaged and adversarial ones, wrong lengths and broken states.
+
+mod bad;
+mod blocks;
+mod channel;
+mod groups;
+mod logs;
+pub mod patterns;
+mod survey;
+
+use crate::random::Random;
+use std::io::{self, Write};
+
+/// A line without its line feed.
+pub type Case = Vec<u8>;
+
+/// Makes the cases with a number: one, or a script of several. Kinds follow each other by the
+/// number, so that a few dozen cases hold one of each.
+type Maker = fn(&Random, usize) -> Vec<Case>;
+
+pub const MAKERS: [(&str, Maker); 15] = [
+    ("correct", blocks::correct),
+    ("read-block", blocks::read_block),
+    ("write-block", blocks::write_block),
+    ("new-channel", channel::new_channel),
+    ("step", channel::step),
+    ("write-message", channel::write_message_case),
+    ("new-group", groups::new_group),
+    ("join", groups::join),
+    ("write-group", groups::write_group_case),
+    ("khz", survey::khz),
+    ("channel", survey::channel),
+    ("log", logs::log),
+    ("summary", survey::summary),
+    ("report", survey::report),
+    ("export", survey::export),
+];
+
+const BAD: (&str, Maker) = ("bad", bad::bad);
+
+/// The makers a word of the command line means: one, all, or none where it means nothing.
+pub fn makers(word: &str) -> Vec<(&'static str, Maker)> {
+    MAKERS
+        .iter()
+        .chain([&BAD])
+        .filter(|maker| word == "all" || word == maker.0)
+        .copied()
+        .collect()
+}
+
+/// So many lines of the command; there is only one case without arguments.
+pub fn make(
+    maker: &(&str, Maker),
+    count: usize,
+    seed: u64,
+    sink: &mut dyn FnMut(&[u8]) -> io::Result<()>,
+) -> io::Result<()> {
+    let random = Random::new(seed, maker.0);
+    let mut left = if maker.0 == "new-channel" {
+        count.min(1)
+    } else {
+        count
+    };
+    let mut index = 0;
+    while left > 0 {
+        let cases = maker.1(&random, index);
+        for case in cases.iter().take(left) {
+            sink(case)?;
+        }
+        left -= cases.len().min(left);
+        index += 1;
+    }
+    Ok(())
+}
+
+pub fn write(word: &str, count: usize, seed: u64, output: &mut impl Write) -> io::Result<()> {
+    for maker in makers(word) {
+        make(&maker, count, seed, &mut |case| {
+            output.write_all(case)?;
+            output.write_all(b"\n")
+        })?;
+    }
+    output.flush()
+}
