@@ -16,6 +16,8 @@ mod notation;
 mod probe;
 mod random;
 mod rows;
+mod search;
+mod selftest;
 mod survey;
 
 use std::io::{self, BufRead, BufReader, BufWriter, Write};
@@ -36,6 +38,13 @@ fn main() -> ExitCode {
             }
             _ => return refuse(),
         },
+        ["selftest"] => {
+            return if selftest::run() {
+                ExitCode::SUCCESS
+            } else {
+                ExitCode::FAILURE
+            }
+        }
         _ => return refuse(),
     };
     match result {

@@ -1,32 +1,13 @@
-//! Cases for the channel state and the message writer. A script is several steps chained through
-//! one state; each step is a case with the state in its line.
+//! Cases for the channel state. A script is several steps chained through one state; each step is
+//! a case with the state in its line.
 
+use super::writers::{data, fill, EDGE_NUMBERS, EDGE_SIZES};
 use super::Case;
 use crate::block::INFORMATION_BYTES;
 use crate::channel::{Channel, Phase};
 use crate::message::*;
 use crate::notation::Line;
 use crate::random::Random;
-
-pub const EDGE_NUMBERS: [u16; 9] = [0, 1, 64, 510, 511, 512, 513, 16382, LARGEST_NUMBER];
-pub const EDGE_SIZES: [usize; 16] = [
-    0,
-    1,
-    14,
-    15,
-    16,
-    17,
-    18,
-    35,
-    36,
-    37,
-    128,
-    234,
-    235,
-    236,
-    254,
-    LARGEST_DATA,
-];
 
 struct Script {
     channel: Channel,
@@ -88,36 +69,6 @@ fn good_state(random: &Random) -> Channel {
             state(random, Phase::Gathering, length, expected)
         }
     }
-}
-
-pub fn fill(random: &Random) -> Fill {
-    let number = match random.flag() {
-        true => random.pick(&EDGE_NUMBERS),
-        false => random.below(1 + usize::from(LARGEST_NUMBER)) as u16,
-    };
-    Fill {
-        ri: random.below(4) as u8,
-        ci: random.below(4) as u8,
-        first: random.flag(),
-        last: random.flag(),
-        number,
-        com: random.one_in(4),
-        di: random.flag(),
-        // Often near the end of the counter, so that it steps from 15 to 0.
-        sc: if random.flag() {
-            random.between(13, 15)
-        } else {
-            random.below(16)
-        } as u8,
-    }
-}
-
-pub fn data(random: &Random) -> Vec<u8> {
-    let size = match random.flag() {
-        true => random.pick(&EDGE_SIZES),
-        false => random.between(0, LARGEST_DATA),
-    };
-    random.marked(size)
 }
 
 /// The information blocks of a written message.
@@ -489,70 +440,4 @@ fn mixed_di(random: &Random) -> Vec<Case> {
         })
         .collect();
     Script::from(ready(random, sc)).feed_all(&mixed)
-}
-
-pub fn write_message_case(random: &Random, index: usize) -> Vec<Case> {
-    let mut fill = fill(random);
-    let mut data = data(random);
-    match index % 6 {
-        0 | 1 => {}
-        2 => {
-            fill.number = EDGE_NUMBERS[index / 6 % EDGE_NUMBERS.len()];
-            data = random.bytes(EDGE_SIZES[index / 54 % EDGE_SIZES.len()]);
-        }
-        3 => over_width(random, &mut fill, index / 6),
-        4 => {
-            let size = random.pick(&[255, 256, 257, 300, 511, 512, 520]);
-            data = random.bytes(size);
-        }
-        _ => {
-            over_width(random, &mut fill, index / 6);
-            data.resize(256, 7);
-        }
-    }
-    let header = if fill.number < 512 { 4 } else { 5 };
-    let blocks = (header + data.len()).div_ceil(DATA_BYTES);
-    let output = output_around(random, blocks * INFORMATION_BYTES);
-    vec![message_line(&fill, &data, &output)]
-}
-
-fn message_line(fill: &Fill, data: &[u8], output: &[u8]) -> Case {
-    Line::new("write-message")
-        .number(fill.ri)
-        .number(fill.ci)
-        .number(fill.first)
-        .number(fill.last)
-        .number(fill.number)
-        .number(fill.com)
-        .number(fill.di)
-        .number(fill.sc)
-        .bytes(data)
-        .bytes(output)
-        .done()
-}
-
-/// One field at a time beyond its width, by one and by far.
-pub fn over_width(random: &Random, fill: &mut Fill, round: usize) {
-    match round % 4 {
-        0 => fill.ri = random.pick(&[4, 5, 7, 128, 255]),
-        1 => fill.ci = random.pick(&[4, 5, 7, 128, 255]),
-        2 => fill.sc = random.pick(&[16, 17, 31, 128, 255]),
-        _ => fill.number = random.pick(&[16384, 16385, 16896, 32768, 65535]),
-    }
-}
-
-/// An output of just the length, one short, much too short, or longer.
-pub fn output_around(random: &Random, length: usize) -> Vec<u8> {
-    let longer = length + random.between(1, 60);
-    let lengths = [
-        length,
-        length,
-        length.saturating_sub(1),
-        length + 1,
-        longer,
-        0,
-        length / 2,
-    ];
-    let length = random.pick(&lengths);
-    random.marked(length)
 }

@@ -1,29 +1,11 @@
-//! Cases for the group state and the group writer.
+//! Cases for the group state.
 
-use super::channel::{fill, output_around, over_width, EDGE_NUMBERS};
+use super::writers::{EDGE_GROUPS, EDGE_NUMBERS};
 use super::Case;
-use crate::block::INFORMATION_BYTES;
 use crate::group::{Group, Incoming, MOST_MESSAGES};
 use crate::message::*;
 use crate::notation::Line;
 use crate::random::Random;
-
-const EDGE_GROUPS: [usize; 14] = [
-    0,
-    1,
-    16,
-    254,
-    255,
-    256,
-    509,
-    510,
-    511,
-    765,
-    3570,
-    3571,
-    3824,
-    LARGEST_GROUP,
-];
 
 /// Messages chained through one state and one buffer.
 struct Script {
@@ -373,37 +355,4 @@ fn several_faults(random: &Random, number: u16) -> Vec<Case> {
         script.buffer.truncate(3824);
     }
     script.feed_all(&[message])
-}
-
-pub fn write_group_case(random: &Random, index: usize) -> Vec<Case> {
-    let mut fill = fill(random);
-    let mut size = random.pick(&[random.below(600), random.below(LARGEST_GROUP + 1)]);
-    match index % 4 {
-        0 => {}
-        1 => size = EDGE_GROUPS[index / 4 % EDGE_GROUPS.len()],
-        2 => {
-            over_width(random, &mut fill, index / 4);
-            size = random.below(300);
-        }
-        _ => size = random.pick(&[0, 255, 256, 3824, 3825, 3826, 4000, 4080]),
-    }
-    let data = random.bytes(size);
-    let output = output_around(random, INFORMATION_BYTES * blocks_for(fill.number, size));
-    vec![Line::new("write-group")
-        .number(fill.number)
-        .number(fill.ri)
-        .number(fill.di)
-        .number(fill.sc)
-        .number(fill.ci)
-        .bytes(&data)
-        .bytes(&output)
-        .done()]
-}
-
-/// How many blocks a group of this size needs.
-fn blocks_for(number: u16, size: usize) -> usize {
-    let header = if number < 512 { 4 } else { 5 };
-    let blocks = |data: usize| (header + data).div_ceil(DATA_BYTES);
-    let whole = size.saturating_sub(1) / LARGEST_DATA;
-    whole * blocks(LARGEST_DATA) + blocks(size - whole * LARGEST_DATA)
 }

@@ -7,6 +7,10 @@ mod groups;
 mod logs;
 pub mod patterns;
 mod survey;
+mod writers;
+
+pub use survey::good_counts;
+pub use writers::fill;
 
 use crate::random::Random;
 use std::io::{self, Write};
@@ -24,10 +28,10 @@ pub const MAKERS: [(&str, Maker); 15] = [
     ("write-block", blocks::write_block),
     ("new-channel", channel::new_channel),
     ("step", channel::step),
-    ("write-message", channel::write_message_case),
+    ("write-message", writers::write_message_cases),
     ("new-group", groups::new_group),
     ("join", groups::join),
-    ("write-group", groups::write_group_case),
+    ("write-group", writers::write_group_cases),
     ("khz", survey::khz),
     ("channel", survey::channel),
     ("log", logs::log),

@@ -76,10 +76,34 @@ pub fn good_counts(random: &Random) -> Counts {
     }
 }
 
-/// Every rule broken by one, and sums that come out right only modulo 2^32.
+/// Too many slots, outcomes that add up only modulo 2^32, clean readings with corrected bits, a
+/// corrected reading without any.
+const IMPOSSIBLE: [Counts; 5] = [
+    counts_of([1_000_000, 0, 0, 0, 0, 0, 1_000_000]),
+    counts_of([5, 3_000_000_000, 3_000_000_000, 0, 1_294_967_301, 0, 0]),
+    counts_of([0, 0, 0, 0, 0, 1 << 31, 1 << 31]),
+    counts_of([2, 2, 2, 1, 0, 0, 0]),
+    counts_of([1, 1, 0, 0, 0, 0, 0]),
+];
+
+const fn counts_of(columns: [u32; 7]) -> Counts {
+    let [slots, read, clean, bits, noword, check, missing] = columns;
+    Counts {
+        channel: 1,
+        slots,
+        read,
+        clean,
+        bits,
+        noword,
+        check,
+        missing,
+    }
+}
+
+/// Every rule broken by one, then counts that break one by far.
 fn broken_counts(random: &Random, round: usize) -> Counts {
     let mut counts = good_counts(random);
-    match round % 20 {
+    match round % 16 {
         0 => counts.channel = random.pick(&[0, 205, 206, 255]),
         1 => counts.slots += 1,
         2 => counts.slots = counts.slots.wrapping_sub(1),
@@ -94,58 +118,10 @@ fn broken_counts(random: &Random, round: usize) -> Counts {
         11 => counts.noword = counts.noword.wrapping_sub(1),
         12 => counts.check = counts.check.wrapping_sub(1),
         13 => counts.missing = counts.missing.wrapping_sub(1),
-        14 => {
-            counts = Counts {
-                slots: 1_000_000,
-                missing: 1_000_000,
-                ..only_channel()
-            }
-        }
-        15 => {
-            counts = Counts {
-                slots: 5,
-                read: 3_000_000_000,
-                noword: 1_294_967_301,
-                clean: 3_000_000_000,
-                ..only_channel()
-            }
-        }
-        16 => {
-            counts = Counts {
-                slots: 0,
-                missing: 1 << 31,
-                check: 1 << 31,
-                ..only_channel()
-            }
-        }
-        17 => {
-            counts = Counts {
-                slots: 2,
-                read: 2,
-                clean: 2,
-                bits: 1,
-                ..only_channel()
-            }
-        }
-        18 => {
-            counts = Counts {
-                slots: 1,
-                read: 1,
-                clean: 0,
-                bits: 0,
-                ..only_channel()
-            }
-        }
+        14 => counts = random.pick(&IMPOSSIBLE),
         _ => counts = any_counts(random),
     }
     counts
-}
-
-fn only_channel() -> Counts {
-    Counts {
-        channel: 1,
-        ..Counts::default()
-    }
 }
 
 fn any_counts(random: &Random) -> Counts {
@@ -162,7 +138,6 @@ fn any_counts(random: &Random) -> Counts {
     }
 }
 
-/// Counts that two logs of the least difference have: a good one with one outcome changed.
 fn counts(random: &Random, index: usize) -> Counts {
     match index % 3 {
         0 => broken_counts(random, index / 3),

@@ -1,0 +1,72 @@
+//! Tests of this program by means other than its own: a search beside the algebra, a shift
+//! register beside the long division, Rust's own numbers beside the written ones.
+
+mod blocks;
+mod lines;
+mod messages;
+mod survey;
+
+/// Nothing, or what was found wrong.
+type Outcome = Result<(), String>;
+
+const TESTS: [(&str, fn() -> Outcome); 17] = [
+    ("the field multiplies as polynomials do", blocks::field),
+    ("the generator has seventeen roots in a row", blocks::roots),
+    (
+        "the parity sums and the least words belong to the code",
+        blocks::code,
+    ),
+    (
+        "long division agrees with a shift register",
+        blocks::divisions,
+    ),
+    (
+        "up to eight wrong places are put right",
+        blocks::few_wrong_places,
+    ),
+    ("the corrector agrees with a search", blocks::search),
+    ("patterns that fool a vote are refused", blocks::votes),
+    ("the published block is written and read", blocks::published),
+    ("headers have the published bytes", messages::published),
+    ("messages read back", messages::messages_read_back),
+    ("groups read back", messages::groups_read_back),
+    ("logs give the counts they were made from", survey::logs),
+    (
+        "counts are possible where a small log has them",
+        survey::small_counts,
+    ),
+    ("exact decimals are exact", survey::decimals),
+    ("channels and kilohertz belong together", survey::channels),
+    ("cases are cases and bad lines are none", lines::cases),
+    ("a refusal leaves what was lent", lines::refusals),
+];
+
+/// Whether all went well; a line on standard output for each test.
+pub fn run() -> bool {
+    let mut failed = 0;
+    for (name, test) in TESTS {
+        match test() {
+            Ok(()) => println!("ok      {name}"),
+            Err(fault) => {
+                failed += 1;
+                println!("FAILED  {name}: {fault}");
+            }
+        }
+    }
+    println!("{} passed, {failed} failed", TESTS.len() - failed);
+    failed == 0
+}
+
+fn expect(holds: bool, fault: impl Fn() -> String) -> Outcome {
+    if holds {
+        Ok(())
+    } else {
+        Err(fault())
+    }
+}
+
+fn expect_equal<T: PartialEq + std::fmt::Debug>(found: T, wanted: T, what: &str) -> Outcome {
+    expect(found == wanted, || {
+        format!("{what}: {found:?} instead of {wanted:?}")
+    })
+}

@@ -1,0 +1,74 @@
+//! The generator's cases and the answers to them, as lines.
+
+use super::{expect, expect_equal, Outcome};
+use crate::cases::{make, makers, Case};
+use crate::probe::{answer, BAD_CASE};
+
+const COUNT: usize = 600;
+
+fn cases_of(word: &str, seed: u64) -> Result<Vec<Case>, String> {
+    let mut cases = Vec::new();
+    for maker in makers(word) {
+        let mut keep = |case: &[u8]| {
+            cases.push(case.to_vec());
+            Ok(())
+        };
+        make(&maker, COUNT, seed, &mut keep).map_err(|error| error.to_string())?;
+    }
+    Ok(cases)
+}
+
+fn text(line: &[u8]) -> String {
+    let mut text = String::from_utf8_lossy(line).into_owned();
+    text.truncate(
+        text.char_indices()
+            .nth(300)
+            .map_or(text.len(), |(place, _)| place),
+    );
+    text
+}
+
+/// A case keeps to one line, is answered, and comes again under the same seed.
+pub fn cases() -> Outcome {
+    let all = cases_of("all", 6)?;
+    let good = all.len() - COUNT;
+    for (i, case) in all.iter().enumerate() {
+        let is_bad = answer(case) == BAD_CASE;
+        expect(is_bad == (i >= good), || text(case))?;
+        expect(!case.contains(&b'\n'), || text(case))?;
+    }
+    expect(all == cases_of("all", 6)?, || {
+        String::from("another time, other cases")
+    })?;
+    expect(all != cases_of("all", 7)?, || {
+        String::from("another seed, the same cases")
+    })
+}
+
+/// Where the answer is a number, the last field is the lent buffer as it came.
+pub fn refusals() -> Outcome {
+    let lending = [
+        "correct",
+        "read-block",
+        "write-block",
+        "write-message",
+        "join",
+        "write-group",
+        "report",
+        "export",
+    ];
+    for word in lending {
+        for case in cases_of(word, 8)? {
+            let answer = answer(&case);
+            if answer[0].is_ascii_digit() {
+                let last = |line: &[u8]| {
+                    line.rsplit(|byte| *byte == b'\t')
+                        .next()
+                        .map(<[u8]>::to_vec)
+                };
+                expect_equal(last(&answer), last(&case), word)?;
+            }
+        }
+    }
+    Ok(())
+}
