@@ -257,10 +257,9 @@ fn any_bytes(random: &Random) -> Vec<Case> {
 
 /// Some hundreds of slots; now and then as many as a case can hold.
 fn longer(random: &Random, round: usize) -> Vec<Case> {
-    let slots = if round % 40 == 39 {
-        15_000
-    } else {
-        random.between(100, 1200)
+    let slots = match round % 40 {
+        39 => random.pick(&[15_000, 18_000]),
+        _ => random.between(100, 1200),
     };
     let mut lines = good_lines(random, slots);
     if random.flag() {
@@ -268,7 +267,7 @@ fn longer(random: &Random, round: usize) -> Vec<Case> {
         lines[place] = b"?\n".to_vec();
     }
     let mut log = lines.concat();
-    // Half of a case's bytes, less than the command needs.
+    // Half of a case's bytes, less what the command needs.
     log.truncate(LONGEST_CASE / 2 - 8);
     case(&log)
 }

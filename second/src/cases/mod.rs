@@ -69,12 +69,29 @@ pub fn make(
     while left > 0 {
         let cases = maker.1(&random, index);
         for case in cases.iter().take(left) {
-            sink(case)?;
+            sink(&in_some_digits(&random, case))?;
         }
         left -= cases.len().min(left);
         index += 1;
     }
     Ok(())
+}
+
+/// The case, now and then with hexadecimal digits in upper case, which are read too.
+fn in_some_digits(random: &Random, case: &[u8]) -> Case {
+    if !random.one_in(16) {
+        return case.to_vec();
+    }
+    let mut fields: Vec<Case> = case
+        .split(|byte| *byte == b'\t')
+        .map(<[u8]>::to_vec)
+        .collect();
+    let digits = fields
+        .iter_mut()
+        .skip(1)
+        .filter(|field| field.iter().all(u8::is_ascii_hexdigit));
+    digits.for_each(|field| field.make_ascii_uppercase());
+    fields.join(&b'\t')
 }
 
 pub fn write(word: &str, count: usize, seed: u64, output: &mut impl Write) -> io::Result<()> {

@@ -255,11 +255,11 @@ fn pattern_row(pattern: &[usize]) -> Row {
 
 /// 000, clause 11.1, as printed there: the leftmost bit of a byte is sent first.
 pub fn published() -> Outcome {
-    let printed = "4000804 0EC040A4AF252A2C22A04B2829272B2A272AA".replace(' ', "");
-    let data: String = printed.chars().map(|digit| bits_of(digit, 4)).collect();
+    let printed = "40008040EC040A4AF252A2C22A04B2829272B2A272AA";
+    let data: String = printed.chars().map(|digit| bits_of(digit)).collect();
     let parity: String = "24202A6000892ADDF597B"
         .chars()
-        .map(|digit| bits_of(digit, 4))
+        .map(|digit| bits_of(digit))
         .collect();
     // 82 bits at the right of 21 digits.
     let sent = data.clone() + "11011100000100" + &parity[2..];
@@ -277,6 +277,6 @@ pub fn published() -> Outcome {
     expect_equal(&output[..], &information[..], "information")
 }
 
-fn bits_of(digit: char, width: usize) -> String {
-    format!("{:0width$b}", digit.to_digit(16).unwrap_or(0))
+fn bits_of(digit: char) -> String {
+    format!("{:04b}", digit.to_digit(16).unwrap_or(0))
 }

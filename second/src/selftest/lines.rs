@@ -64,7 +64,7 @@ pub fn refusals() -> Outcome {
                 let last = |line: &[u8]| {
                     line.rsplit(|byte| *byte == b'\t')
                         .next()
-                        .map(<[u8]>::to_vec)
+                        .map(<[u8]>::to_ascii_lowercase)
                 };
                 expect_equal(last(&answer), last(&case), word)?;
             }
