@@ -2,7 +2,7 @@
 //! a case with the state in its line.
 
 use super::writers::{data, fill, EDGE_NUMBERS, EDGE_SIZES};
-use super::Case;
+use super::{several, Case};
 use crate::block::INFORMATION_BYTES;
 use crate::channel::{Channel, Phase};
 use crate::message::*;
@@ -128,14 +128,14 @@ pub fn step(random: &Random, index: usize) -> Vec<Case> {
         4 => block_header_bit_turned(random, round),
         5 => last_flag_turned(random),
         6 => fourteen_blocks(random),
-        7 => broken_state(random, round),
+        7 => several(4, round, |round| broken_state(random, round)),
         8 => wrong_length(random),
         9 => other_channel(random),
-        10 => header_form(random, round),
-        11 => wrong_block_count(random),
-        12 => padding(random),
-        13 => message_header_bit_turned(random, round),
-        14 => random_block(random),
+        10 => several(4, round, |round| header_form(random, round)),
+        11 => several(2, round, |_| wrong_block_count(random)),
+        12 => several(2, round, |_| padding(random)),
+        13 => several(4, round, |round| message_header_bit_turned(random, round)),
+        14 => several(2, round, |_| random_block(random)),
         15 => random_message_with_right_check(random),
         16 => from_waiting(random),
         _ => mixed_di(random),
@@ -249,13 +249,11 @@ const BROKEN_STATES: [(Phase, u32, u8); 24] = [
 /// A state outside the rule is refused before anything the block may have wrong.
 fn broken_state(random: &Random, round: usize) -> Vec<Case> {
     let (phase, length, expected) = BROKEN_STATES[round % BROKEN_STATES.len()];
-    let mut script = Script::from(state(random, phase, length, expected));
+    let channel = state(random, phase, length, expected);
     let header = BlockHeader::on_long_messages(false, random.flag(), expected % 16);
     let good = block(header, &random.bytes(DATA_BYTES));
-    script.feed(&good);
-    script.feed(&good[..21]);
-    script.feed(&[0; INFORMATION_BYTES]);
-    script.cases
+    let information = random.pick(&[good.clone(), good, vec![0xA4; 21], vec![0; 22]]);
+    Script::from(channel).feed_all(&[information])
 }
 
 fn wrong_length(random: &Random) -> Vec<Case> {
@@ -338,6 +336,7 @@ fn header_form(random: &Random, round: usize) -> Vec<Case> {
     }
     if round & 2 > 0 {
         header.ext = true;
+        header.ext_add = random.between(1, 31) as u16;
         header.rfa = random.between(1, 7) as u8;
     }
     if round & 4 > 0 {

@@ -1,7 +1,7 @@
 //! Cases for the group state.
 
 use super::writers::{EDGE_GROUPS, EDGE_NUMBERS};
-use super::Case;
+use super::{several, Case};
 use crate::group::{Group, Incoming, MOST_MESSAGES};
 use crate::message::*;
 use crate::notation::Line;
@@ -123,8 +123,8 @@ pub fn join(random: &Random, index: usize) -> Vec<Case> {
         3 => interleaved(random, number),
         4 => first_in_the_middle(random, number),
         5 => sixteen_messages(random, number),
-        6 => broken_state(random, number, round),
-        7 => field_outside(random, number, round),
+        6 => several(4, round, |round| broken_state(random, number, round)),
+        7 => several(2, round, |round| field_outside(random, number, round)),
         8 => buffer_length(random, number),
         9 => full_group(random, number),
         10 => edge_group(random, number, round),

@@ -40,6 +40,11 @@ pub const MAKERS: [(&str, Maker); 15] = [
     ("export", survey::export),
 ];
 
+/// Short scripts come several at a time, or the long ones would leave no room for them.
+fn several(count: usize, round: usize, script: impl Fn(usize) -> Vec<Case>) -> Vec<Case> {
+    (0..count).flat_map(|i| script(count * round + i)).collect()
+}
+
 const BAD: (&str, Maker) = ("bad", bad::bad);
 
 /// The makers a word of the command line means: one, all, or none where it means nothing.
