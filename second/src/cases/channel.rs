@@ -145,7 +145,8 @@ pub fn step(random: &Random, index: usize) -> Vec<Case> {
 /// Every edge number with every edge size in turn, read back from a ready channel.
 fn edge_message(random: &Random, round: usize) -> Vec<Case> {
     let number = EDGE_NUMBERS[round % EDGE_NUMBERS.len()];
-    let size = EDGE_SIZES[round / EDGE_NUMBERS.len() % EDGE_SIZES.len()];
+    // Nine numbers and sixteen sizes: every pair comes within 144 rounds.
+    let size = EDGE_SIZES[round % EDGE_SIZES.len()];
     let fill = Fill {
         number,
         ..fill(random)

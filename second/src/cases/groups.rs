@@ -252,14 +252,15 @@ fn broken_state(random: &Random, number: u16, round: usize) -> Vec<Case> {
         messages,
         ci,
     };
-    // Now and then only the number is wrong, and the message has it too.
-    if random.one_in(6) {
+    // Now and then only the number is wrong, and the message may have it too.
+    if random.one_in(4) {
         group = Group {
             number: random.pick(&[16384, 65535]),
             ..good_state(random, number)
         };
     }
-    let message = fitting(random, &group);
+    let mut message = fitting(random, &group);
+    message.number = random.pick(&[number, group.number]);
     Script::from(random, group).feed_all(&[message])
 }
 

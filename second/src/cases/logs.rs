@@ -1,6 +1,6 @@
 //! Cases for the log: good ones, and each rule broken in turn.
 
-use super::Case;
+use super::{several, Case};
 use crate::notation::{Line, LONGEST_CASE};
 use crate::random::Random;
 
@@ -84,15 +84,15 @@ pub fn log(random: &Random, index: usize) -> Vec<Case> {
     match index % 16 {
         0 | 1 => case(&some_lines(random).concat()),
         2 => plain(random, round),
-        3 => one_byte_changed(random),
+        3 | 8 => one_byte_changed(random),
         4 => one_byte_more_or_less(random),
-        5 => bad_first_line(random, round),
-        6 => bad_outcome(random, round),
-        7 | 8 => bad_slot_number(random, round),
+        5 => several(2, round, |round| bad_first_line(random, round)),
+        6 => several(2, round, |round| bad_outcome(random, round)),
+        7 => several(2, round, |round| bad_slot_number(random, round)),
         9 => lines_moved(random),
         10 => line_length(random, round),
         11 => cut(random),
-        12 => byte_of_every_value(random, round),
+        12 => several(4, round, |round| byte_of_every_value(random, round)),
         13 => carriage_returns(random),
         14 => any_bytes(random),
         _ => longer(random, round),

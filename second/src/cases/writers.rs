@@ -79,7 +79,7 @@ pub fn write_message_cases(random: &Random, index: usize) -> Vec<Case> {
         0 | 1 => {}
         2 => {
             fill.number = EDGE_NUMBERS[index / 6 % EDGE_NUMBERS.len()];
-            data = random.bytes(EDGE_SIZES[index / 54 % EDGE_SIZES.len()]);
+            data = random.bytes(EDGE_SIZES[index / 6 % EDGE_SIZES.len()]);
         }
         3 => over_width(random, &mut fill, index / 6),
         4 => {

@@ -205,10 +205,10 @@ fn positions(powers: &[usize]) -> Vec<usize> {
     positions
 }
 
-/// The patterns are what their comment says, and the corrector takes none of them.
+/// The patterns are what their comments say, and the corrector takes none of them.
 pub fn votes() -> Outcome {
     let sums = Sums::new();
-    let needed_for_restored: [&[usize]; 9] = [
+    let needed: [&[usize]; 9] = [
         &[9, 10],
         &[9, 10],
         &[9, 10],
@@ -219,7 +219,7 @@ pub fn votes() -> Outcome {
         &[9, 10],
         &[10],
     ];
-    for (pattern, needed) in RESTORED_BY_A_VOTE.iter().zip(needed_for_restored) {
+    for (pattern, needed) in RESTORED_BY_A_VOTE.iter().zip(needed) {
         let row = pattern_row(pattern);
         for needed in needed {
             expect_equal(
@@ -233,18 +233,23 @@ pub fn votes() -> Outcome {
         })?;
     }
     for (i, pattern) in LEFT_BY_A_VOTE.iter().enumerate() {
-        let mut row = pattern_row(pattern);
-        let changed = voted(&sums, &row, if i == 0 { 10 } else { 9 });
-        expect((1..=8).contains(&changed.len()), || {
-            format!("{pattern:?}: {changed:?}")
-        })?;
-        expect(nearest_word(&row).is_none(), || {
-            format!("{pattern:?} is taken")
-        })?;
-        changed.iter().for_each(|position| row[*position] ^= true);
-        expect(!is_code_word(&row), || format!("{pattern:?} leaves a word"))?;
+        expect_left(&sums, pattern, if i == 0 { 10 } else { 9 })?;
     }
     Ok(())
+}
+
+/// A vote changes at most eight places and leaves no word.
+fn expect_left(sums: &Sums, pattern: &[usize], needed: usize) -> Outcome {
+    let mut row = pattern_row(pattern);
+    expect(nearest_word(&row).is_none(), || {
+        format!("{pattern:?} is taken")
+    })?;
+    let changed = voted(sums, &row, needed);
+    expect((1..=8).contains(&changed.len()), || {
+        format!("{pattern:?}: {changed:?}")
+    })?;
+    changed.iter().for_each(|position| row[*position] ^= true);
+    expect(!is_code_word(&row), || format!("{pattern:?} leaves a word"))
 }
 
 fn pattern_row(pattern: &[usize]) -> Row {

@@ -68,25 +68,40 @@ pub fn logs() -> Outcome {
     expect_equal(read_log(log.as_bytes()), wanted, "one slot too many")
 }
 
-/// Every log of at most three slots against every row of small counts.
-pub fn small_counts() -> Outcome {
-    let columns = |c: &Counts| {
-        [
-            c.slots, c.read, c.clean, c.bits, c.noword, c.check, c.missing,
-        ]
+fn columns(counts: &Counts) -> [u32; 7] {
+    let Counts {
+        slots,
+        read,
+        clean,
+        bits,
+        noword,
+        check,
+        missing,
+        ..
+    } = *counts;
+    [slots, read, clean, bits, noword, check, missing]
+}
+
+/// The counts of every log of at most three slots.
+fn counts_of_small_logs() -> HashSet<[u32; 7]> {
+    let longer = |log: &String| {
+        OUTCOMES
+            .chars()
+            .map(|c| format!("{log}{c}"))
+            .collect::<Vec<_>>()
     };
     let mut logs = vec![String::new()];
-    let mut possible = HashSet::new();
+    let mut found = HashSet::new();
     for _ in 0..4 {
-        possible.extend(logs.iter().map(|outcomes| columns(&counts_of(1, outcomes))));
-        let longer = |log: &String| {
-            OUTCOMES
-                .chars()
-                .map(|c| format!("{log}{c}"))
-                .collect::<Vec<_>>()
-        };
+        found.extend(logs.iter().map(|outcomes| columns(&counts_of(1, outcomes))));
         logs = logs.iter().flat_map(longer).collect();
     }
+    found
+}
+
+/// Every row of small counts against those logs.
+pub fn small_counts() -> Outcome {
+    let found = counts_of_small_logs();
     let sizes = [4, 5, 5, 27, 5, 5, 5];
     for number in 0..sizes.iter().product() {
         let mut rest = number;
@@ -105,7 +120,7 @@ pub fn small_counts() -> Outcome {
             check,
             missing,
         };
-        let wanted = possible.contains(&columns(&counts));
+        let wanted = found.contains(&columns(&counts));
         expect(counts.come_from_a_log() == wanted, || format!("{counts:?}"))?;
     }
     Ok(())
