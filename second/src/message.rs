@@ -13,7 +13,7 @@ pub const LARGEST_NUMBER: u16 = 16383;
 const FIRST_EXTENDED: u16 = 512;
 const LONG_MESSAGE_CHANNEL: u32 = 0xA;
 
-/// Takes fields off the front of a header, and puts them on its end.
+/// Takes fields off the front of a header.
 struct Fields<'a> {
     bits: &'a [bool],
 }
