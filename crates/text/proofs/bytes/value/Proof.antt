@@ -1,0 +1,47 @@
+-- `text::bytes::value`: each way through the ranges is a case of `digitOf`. Assumes nothing.
+use native.Mathlib.Omega.{arith}
+use borrow.Author.Tests.{le-leb, lt-leb}
+use borrow.Author.Needs.{needs}
+use Rattle.text.proofs.bytes.value.Statement.{statement}
+use Rattle.text.proofs.bytes.value.Tie as tie
+
+add-result : tie.Need-add-result
+add-result c = search needs
+
+add-result-2 : tie.Need-add-result-2
+add-result-2 c = search needs
+
+returns : tie.Need-returns
+returns c = let b = c .before .before .args .digit in simp (le-leb 48 b (omega arith), le-leb b 57 (omega arith))
+
+returns-2 : tie.Need-returns-2
+returns-2 c = let b = c .before .before .before .before .args .digit in simp (le-leb 48 b (omega arith), lt-leb b 57 (omega arith), lt-leb 97 b (omega arith), le-leb 65 b (omega arith), le-leb b 70 (omega arith))
+
+returns-3 : tie.Need-returns-3
+returns-3 c = let b = c .before .before .before .before .before .before .args .digit in simp (le-leb 48 b (omega arith), lt-leb b 57 (omega arith), le-leb 97 b (omega arith), le-leb b 102 (omega arith))
+
+returns-4 : tie.Need-returns-4
+returns-4 c = let b = c .before .args .digit in simp (lt-leb 48 b (omega arith), lt-leb 97 b (omega arith), lt-leb 65 b (omega arith))
+
+returns-5 : tie.Need-returns-5
+returns-5 c = let b = c .before .before .before .args .digit in simp (le-leb 48 b (omega arith), lt-leb b 57 (omega arith), lt-leb 97 b (omega arith), lt-leb 65 b (omega arith))
+
+returns-6 : tie.Need-returns-6
+returns-6 c = let b = c .before .before .before .before .before .args .digit in simp (le-leb 48 b (omega arith), lt-leb b 57 (omega arith), lt-leb 97 b (omega arith), le-leb 65 b (omega arith), lt-leb b 70 (omega arith))
+
+returns-7 : tie.Need-returns-7
+returns-7 c = let b = c .before .before .before .before .before .before .args .digit in simp (le-leb 48 b (omega arith), lt-leb b 57 (omega arith), le-leb 97 b (omega arith), lt-leb b 102 (omega arith), le-leb 65 b (omega arith), lt-leb b 70 (omega arith))
+
+pub value-spec : {M : Type 1} → statement M
+value-spec =
+    tie.close
+    (tie.spec
+    add-result
+    add-result-2
+    returns
+    returns-2
+    returns-3
+    returns-4
+    returns-5
+    returns-6
+    returns-7)

@@ -1,0 +1,48 @@
+-- docs/PROBE.md: bytes are written in hexadecimal, two lower-case digits each, and `.` where there are none; upper-case
+-- digits are read too. Assumes nothing.
+use Prim.Native.Nat.{ℕ, _+_, _-_, _*_, _/_, _%_}
+use mathlib.Core.Bool.{Bool, true, cond, not, _&&_}
+use mathlib.Core.List.{List, [], _∷_, _++_}
+use lib.ListN.{length, getD, drop}
+use lib.Dec.{eqb, leb, ltb}
+use Rattle.text.specs.declared.bytes.Bytes.{Bytes}
+use Rattle.text.specs.declared.bytes.Bytes.the-variants.{Are, Unreadable}
+
+-- the value of a digit, and 16 for any other byte
+abbrev pub digitOf : ℕ → ℕ
+digitOf b =
+    cond (leb 48 b && leb b 57) (b - 48)
+    (cond (leb 97 b && leb b 102) (b - 97 + 10) (cond (leb 65 b && leb b 70) (b - 65 + 10) 16))
+
+-- every byte is a digit
+abbrev pub hexadecimal : List ℕ → Bool
+hexadecimal [] = true
+hexadecimal (b ∷ digits) = ltb (digitOf b) 16 && hexadecimal digits
+
+-- the bytes, two digits each
+abbrev pub bytesOf : List ℕ → List ℕ
+bytesOf [] = []
+bytesOf (a ∷ []) = []
+bytesOf (a ∷ b ∷ digits) = (digitOf a * 16 + digitOf b) ∷ bytesOf digits
+
+-- a field that is `.`, or an even number of digits, not none, whose bytes there is room for
+abbrev pub readOf : List ℕ → ℕ → Bytes
+readOf digits room =
+    cond (eqb (length digits) 1) (cond (eqb (getD digits 0 0) 46) (Are 0) Unreadable)
+    (cond (eqb (length digits) 0) Unreadable
+    (cond (not (eqb (length digits % 2) 0)) Unreadable
+    (cond (ltb room (length digits / 2)) Unreadable
+    (cond (hexadecimal digits) (Are (length digits / 2)) Unreadable))))
+
+-- the output: the bytes that were read, and then as before
+abbrev pub leftOf : Bytes → List ℕ → List ℕ → List ℕ
+leftOf (Are count) digits output = bytesOf digits ++ drop count output
+leftOf Unreadable digits output = output
+
+abbrev pub countOf : Bytes → ℕ
+countOf (Are count) = count
+countOf Unreadable = 0
+
+-- the digit of a number below 16
+abbrev pub spelled : ℕ → ℕ
+spelled number = cond (ltb number 10) (48 + number) (97 + number - 10)

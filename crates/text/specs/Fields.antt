@@ -1,0 +1,28 @@
+-- docs/PROBE.md: a line is a command and its arguments, parted by tabs. Assumes nothing.
+use Prim.Native.Nat.{ℕ, zero, suc}
+use mathlib.Core.Bool.{Bool, true, false, cond, _&&_}
+use mathlib.Core.List.{List, [], _∷_}
+use lib.ListN.{take, drop}
+use lib.Dec.{eqb}
+
+-- the same bytes in the same order
+abbrev pub sameAs : List ℕ → List ℕ → Bool
+sameAs [] [] = true
+sameAs [] (b ∷ bs) = false
+sameAs (a ∷ xs) [] = false
+sameAs (a ∷ xs) (b ∷ bs) = eqb a b && sameAs xs bs
+
+-- the tabs of a line
+abbrev pub tabs : List ℕ → ℕ
+tabs [] = 0
+tabs (b ∷ line) = cond (eqb b 9) (suc (tabs line)) (tabs line)
+
+-- the bytes before the first tab, or all
+abbrev pub beforeTab : List ℕ → ℕ
+beforeTab [] = 0
+beforeTab (b ∷ line) = cond (eqb b 9) 0 (suc (beforeTab line))
+
+-- a field is what stands before the first tab, once as many fields as its index are taken off with the tab behind each
+abbrev pub fieldOf : ℕ → List ℕ → List ℕ
+fieldOf zero line = take (beforeTab line) line
+fieldOf (suc index) line = fieldOf index (drop (suc (beforeTab line)) line)

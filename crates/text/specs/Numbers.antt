@@ -1,0 +1,30 @@
+-- docs/PROBE.md: numbers are decimal without a sign, and flags are 0 or 1. Assumes nothing.
+use Prim.Native.Nat.{ℕ, _+_, _-_, _*_}
+use mathlib.Core.Bool.{Bool, cond, _&&_}
+use mathlib.Core.List.{List, [], _∷_}
+use lib.ListN.{length, getD}
+use lib.Dec.{eqb, leb}
+use Rattle.text.specs.declared.numbers.Number.{Number}
+use Rattle.text.specs.declared.numbers.Number.the-variants.{Is, Unreadable}
+use Rattle.text.specs.declared.numbers.Flag.{Flag}
+use Rattle.text.specs.declared.numbers.Flag.the-variants.{Clear, Set, Unreadable as NoFlag}
+
+abbrev pub decimal : ℕ → Bool
+decimal b = leb 48 b && leb b 57
+
+-- digits read on from a value; a value over the most is no number
+abbrev pub digitsFrom : ℕ → ℕ → List ℕ → Number
+digitsFrom most value [] = Is value
+digitsFrom most value (b ∷ digits) =
+    cond (decimal b)
+    (cond (leb (value * 10 + (b - 48)) most) (digitsFrom most (value * 10 + (b - 48)) digits) Unreadable)
+    Unreadable
+
+-- one or more digits
+abbrev pub numberOf : ℕ → List ℕ → Number
+numberOf most digits = cond (eqb (length digits) 0) Unreadable (digitsFrom most 0 digits)
+
+-- one digit, 0 or 1
+abbrev pub flagOf : List ℕ → Flag
+flagOf digits =
+    cond (eqb (length digits) 1) (cond (eqb (getD digits 0 0) 48) Clear (cond (eqb (getD digits 0 0) 49) Set NoFlag)) NoFlag

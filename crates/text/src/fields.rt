@@ -1,0 +1,72 @@
+// A line and its fields.
+ghost use mathlib.Core.Path.{_≡_};
+ghost use Prim.Native.Nat.{_≤_};
+ghost use lib.ListN.{length};
+ghost use Rattle.text.specs.Fields.{sameAs, tabs, beforeTab, fieldOf};
+
+const TAB: u8 = 9;
+
+// Whether a and b hold the same bytes.
+pub fn same(a: &[u8], b: &[u8]) -> bool
+    ensures { λ r. ⌜ r ≡ sameAs (now (a .entry)) (now (b .entry)) ⌝ }
+{
+    if a.len() != b.len() {
+        return false;
+    }
+    let mut i = 0;
+    while i < a.len() {
+        if a[i] != b[i] {
+            return false;
+        }
+        i += 1;
+    }
+    true
+}
+
+// The number of arguments of a line: one behind each tab, since the command stands before the first.
+pub fn arguments(line: &[u8]) -> usize
+    ensures { λ r. ⌜ r ≡ tabs (now (line .entry)) ⌝ }
+{
+    let mut count = 0;
+    let mut i = 0;
+    while i < line.len() {
+        if line[i] == TAB {
+            count += 1;
+        }
+        i += 1;
+    }
+    count
+}
+
+// How many bytes stand before the first tab, or are there where there is none.
+fn before_tab(rest: &[u8]) -> usize
+    ensures { λ r. ⌜ r ≡ beforeTab (now (rest .entry)) ⌝ }
+    ensures { λ r. ⌜ r ≤ length (now (rest .entry)) ⌝ }
+{
+    let mut i = 0;
+    while i < rest.len() {
+        if rest[i] == TAB {
+            return i;
+        }
+        i += 1;
+    }
+    i
+}
+
+// The field with an index, 0 for the command; where the line has no such field, nothing.
+pub fn field(line: &[u8], index: usize) -> &[u8]
+    ensures { λ r. ⌜ now r ≡ fieldOf index (now (line .entry)) ⌝ }
+{
+    let mut rest = line;
+    let mut left = index;
+    while 0 < left {
+        let skipped = before_tab(rest);
+        if rest.len() <= skipped {
+            return &rest[skipped..];
+        }
+        rest = &rest[skipped + 1..];
+        left -= 1;
+    }
+    let count = before_tab(rest);
+    &rest[..count]
+}

@@ -1,0 +1,54 @@
+// Numbers and flags in a field.
+ghost use mathlib.Core.Path.{_≡_};
+ghost use Rattle.text.specs.Numbers.{numberOf, flagOf};
+
+pub enum Number {
+    Is(u32),
+    Unreadable,
+}
+
+pub enum Flag {
+    Clear,
+    Set,
+    Unreadable,
+}
+
+// The number that one or more decimal digits spell. Unreadable: no digits, another byte, or a number over the most.
+pub fn read_number(digits: &[u8], most: u32) -> Number
+    ensures { λ r. ⌜ r ≡ numberOf most (now (digits .entry)) ⌝ }
+{
+    if digits.len() == 0 {
+        return Number::Unreadable;
+    }
+    let mut value: u64 = 0;
+    let mut i = 0;
+    while i < digits.len() {
+        let digit = digits[i];
+        if digit < b'0' {
+            return Number::Unreadable;
+        }
+        if b'9' < digit {
+            return Number::Unreadable;
+        }
+        value = value * 10 + (digit - b'0') as u64;
+        if (most as u64) < value {
+            return Number::Unreadable;
+        }
+        i += 1;
+    }
+    Number::Is(value as u32)
+}
+
+// `0` or `1`.
+pub fn read_flag(digits: &[u8]) -> Flag
+    ensures { λ r. ⌜ r ≡ flagOf (now (digits .entry)) ⌝ }
+{
+    if digits.len() != 1 {
+        return Flag::Unreadable;
+    }
+    match digits[0] {
+        b'0' => Flag::Clear,
+        b'1' => Flag::Set,
+        _ => Flag::Unreadable,
+    }
+}
