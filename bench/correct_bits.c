@@ -1,0 +1,44 @@
+// The corrector in C the way the proved one goes: a byte for each bit, the 273 parity sums once, then a vote at each
+// place; the word is divided by the generator, and the changes are counted.
+#include "blocks.h"
+
+// The generator's powers below 82.
+static const int power[] = {77, 76, 71, 67, 66, 56, 52, 48, 40, 36, 34, 24, 22, 18, 10, 4, 0};
+
+static u8 low[82];
+
+static int is_word(const u8 *word) {
+    u8 row[PLACES];
+    for (int p = 0; p < PLACES; p++) row[p] = word[p];
+    for (int p = 0; p < PLACES - 82; p++)
+        if (row[p])
+            for (int j = 0; j < 82; j++) row[p + 1 + j] ^= low[j];
+    for (int p = PLACES - 82; p < PLACES; p++)
+        if (row[p]) return 0;
+    return 1;
+}
+
+static int correct(const u8 *received, u8 *out) {
+    u8 row[CIRCLE], odd[CIRCLE], word[PLACES];
+    if (!low[81])
+        for (unsigned k = 0; k < sizeof power / sizeof *power; k++) low[81 - power[k]] = 1;
+    for (int p = 0; p < PLACES; p++) row[p] = received[p / 8] >> p % 8 & 1;
+    row[PLACES] = 0;
+    for (int t = 0; t < CIRCLE; t++) {
+        odd[t] = 0;
+        for (int k = 0; k < CHECKS; k++) odd[t] ^= row[(t + check[k]) % CIRCLE];
+    }
+    int changed = 0;
+    for (int p = 0; p < PLACES; p++) {
+        int votes = 0;
+        for (int k = 0; k < CHECKS; k++) votes += odd[(p + CIRCLE - check[k]) % CIRCLE];
+        word[p] = row[p] ^ (9 <= votes);
+        changed += 9 <= votes;
+    }
+    if (!is_word(word) || MOST < changed) return -1;
+    for (int i = 0; i < BYTES; i++) {
+        out[i] = 0;
+        for (int j = 0; j < 8; j++) out[i] |= word[8 * i + j] << j;
+    }
+    return changed;
+}
