@@ -1,50 +1,36 @@
-// The block's commands.
+// The block's commands. Each has two arguments: bytes, and the output that is lent.
 use crate::cases;
-use crate::output;
-use output::Output;
 
+// The most bytes of an argument.
 const MOST: usize = 8192;
 
 pub fn has(command: &[u8]) -> bool {
-    if text::same(command, b"correct") {
-        return true;
-    }
-    false
+    text::same(command, b"correct")
 }
 
-pub fn answer(line: &[u8], buffer: &mut [u8], output: Output) -> Output {
-    correct(line, buffer, output)
-}
-
-fn correct(line: &[u8], buffer: &mut [u8], output: Output) -> Output {
+pub fn answer(line: &[u8], answers: &mut [u8], at: usize) -> usize {
     if text::arguments(line) != 2 {
-        return cases::bad(buffer, output);
+        return cases::bad(answers, at);
     }
     let mut bytes = [0u8; 8192];
-    let received = cases::bytes_at(line, 1, MOST, &mut bytes);
+    let given = cases::bytes_at(line, 1, MOST, &mut bytes);
+    if !given.readable {
+        return cases::bad(answers, at);
+    }
     let mut room = [0u8; 8192];
     let lent = cases::bytes_at(line, 2, MOST, &mut room);
-    if !received.readable {
-        return cases::bad(buffer, output);
-    }
     if !lent.readable {
-        return cases::bad(buffer, output);
+        return cases::bad(answers, at);
     }
-    let n = received.count;
+    let n = given.count;
     let m = lent.count;
-    put_corrected(&bytes[..n], &mut room[..m], buffer, output)
+    correct(&bytes[..n], &mut room[..m], answers, at)
 }
 
-fn put_corrected(
-    received: &[u8],
-    corrected: &mut [u8],
-    buffer: &mut [u8],
-    output: Output,
-) -> Output {
-    let done = block::correct(received, corrected);
-    let answer = done.answer;
-    let answered = cases::put_answer(buffer, output, answer, b"word");
-    let counted = cases::put_number(buffer, answered, done.count as u64);
-    let put = cases::put_bytes(buffer, counted, corrected);
-    output::end_line(buffer, put)
+fn correct(received: &[u8], output: &mut [u8], answers: &mut [u8], at: usize) -> usize {
+    let corrected = block::correct(received, output);
+    let answer = corrected.answer;
+    let answered = cases::put_answer(answers, at, answer, b"word");
+    let counted = cases::put_number(answers, answered, corrected.count as u64);
+    cases::put_bytes(answers, counted, output)
 }

@@ -1,13 +1,12 @@
-// What the commands share: reading an argument of a line, and writing an answer.
+// What the commands share: reading an argument of a line, and putting an answer.
 ghost use Rattle.io.specs.Counts.{Counts};
-use crate::output;
+use crate::put;
 use answers::Answer;
-use output::Output;
 use text::Bytes;
 
 // The line is no case.
-pub fn bad(buffer: &mut [u8], output: Output) -> Output {
-    output::put_word(buffer, output, b"bad case\n")
+pub fn bad(room: &mut [u8], at: usize) -> usize {
+    put::word(room, at, b"bad case\n")
 }
 
 // Whether an argument can be read as bytes, and how many there are.
@@ -16,7 +15,7 @@ pub struct Argument {
     pub count: usize,
 }
 
-// The bytes of an argument, at most so many, at the start of the room.
+// The bytes of an argument, at most so many, at the start of a room.
 pub fn bytes_at(line: &[u8], index: usize, most: usize, room: &mut [u8]) -> Argument
     ensures { λ r. ⌜ Counts (r .count) (now (room .exit)) ⌝ }
 {
@@ -40,23 +39,22 @@ pub fn bytes_at(line: &[u8], index: usize, most: usize, room: &mut [u8]) -> Argu
 }
 
 // The name of the success, or the number of the refusal.
-pub fn put_answer(buffer: &mut [u8], output: Output, answer: Answer, success: &[u8]) -> Output {
+pub fn put_answer(room: &mut [u8], at: usize, answer: Answer, success: &[u8]) -> usize {
     match answer {
-        Answer::Accepted => output::put_word(buffer, output, success),
-        Answer::Refused(refusal) => output::put_number(
-            buffer,
-            output,
-            answers::number(refusal) as u64,
-        ),
+        Answer::Accepted => put::word(room, at, success),
+        Answer::Refused(refusal) => put::number(room, at, answers::number(refusal) as u64),
     }
 }
 
-pub fn put_number(buffer: &mut [u8], output: Output, number: u64) -> Output {
-    let parted = output::put_byte(buffer, output, b'\t');
-    output::put_number(buffer, parted, number)
+// A further field, which is a number.
+pub fn put_number(room: &mut [u8], at: usize, number: u64) -> usize {
+    let parted = put::byte(room, at, b'\t');
+    put::number(room, parted, number)
 }
 
-pub fn put_bytes(buffer: &mut [u8], output: Output, bytes: &[u8]) -> Output {
-    let parted = output::put_byte(buffer, output, b'\t');
-    output::put_bytes(buffer, parted, bytes)
+// The last field, which is bytes.
+pub fn put_bytes(room: &mut [u8], at: usize, bytes: &[u8]) -> usize {
+    let parted = put::byte(room, at, b'\t');
+    let end = put::bytes(room, parted, bytes);
+    put::byte(room, end, b'\n')
 }

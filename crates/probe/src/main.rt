@@ -2,65 +2,79 @@
 // line for each case. docs/PROBE.md has the notation. Each area has a module, with a function for each of its commands.
 mod blocks;
 mod cases;
-mod output;
+mod put;
 
 use libc::STDERR_FILENO;
 use libc::STDIN_FILENO;
-use output::Output;
+use libc::STDOUT_FILENO;
 
 const LINE_FEED: u8 = 10;
 
-// The length of the line that is being gathered, whether it is longer than a case can be, the output, and whether there
-// is more to do.
+// More than an answer takes: whatever is lent stands in the line too, which has at most 262,143 bytes.
+const ANSWER: usize = 266240;
+
+// The line that is being gathered has a length, and is long where it has more bytes than a case can have. So many bytes
+// of answers wait to be written. There is more to do until the input ends or nothing more can be written.
 struct State {
     length: usize,
     long: bool,
-    output: Output,
+    waiting: usize,
     more: bool,
 }
 
-// Answers a line: the area of its command does, or it is no case.
-fn answer(line: &[u8], buffer: &mut [u8], output: Output) -> Output {
+// Puts the answer to a line: the area of its command knows it, or it is no case.
+fn answer(line: &[u8], answers: &mut [u8], at: usize) -> usize {
     let command = text::field(line, 0);
     if blocks::has(command) {
-        return blocks::answer(line, buffer, output);
+        return blocks::answer(line, answers, at);
     }
-    cases::bad(buffer, output)
+    cases::bad(answers, at)
 }
 
-// Answers the line that was gathered.
-fn answer_gathered(
-    line: &[u8],
-    length: usize,
-    long: bool,
-    buffer: &mut [u8],
-    output: Output,
-) -> Output {
-    if long {
-        return cases::bad(buffer, output);
+// Puts the answer to the line that was gathered.
+fn answer_gathered(line: &[u8], answers: &mut [u8], state: State) -> usize {
+    let length = state.length;
+    let at = state.waiting;
+    if state.long {
+        return cases::bad(answers, at);
     }
     if length <= line.len() {
-        return answer(&line[..length], buffer, output);
+        return answer(&line[..length], answers, at);
     }
-    cases::bad(buffer, output)
+    cases::bad(answers, at)
 }
 
-// Answers the line that was gathered, and begins the next.
-fn end_line(line: &[u8], buffer: &mut [u8], state: State) -> State {
-    let before = state.output;
-    let after = answer_gathered(line, state.length, state.long, buffer, before);
-    State {
+// Writes the answers that wait. Where they fill their room to the end, some may be missing.
+fn written(answers: &[u8], waiting: usize) -> bool {
+    if answers.len() <= waiting {
+        io::write_all(STDERR_FILENO, b"probe: there is no room for an answer\n");
+        return false;
+    }
+    io::write_all(STDOUT_FILENO, &answers[..waiting])
+}
+
+// Answers the line that was gathered, and begins the next. The answers are written where there may be no room for one
+// more.
+fn end_line(line: &[u8], answers: &mut [u8], state: State) -> State {
+    let waiting = answer_gathered(line, answers, state);
+    let mut next = State {
         length: 0,
         long: false,
-        output: after,
+        waiting: waiting,
         more: true,
+    };
+    if waiting < ANSWER {
+        return next;
     }
+    next.more = written(answers, waiting);
+    next.waiting = 0;
+    next
 }
 
 // Takes a byte of the input.
-fn take_byte(byte: u8, line: &mut [u8], buffer: &mut [u8], state: State) -> State {
+fn take_byte(byte: u8, line: &mut [u8], answers: &mut [u8], state: State) -> State {
     if byte == LINE_FEED {
-        return end_line(line, buffer, state);
+        return end_line(line, answers, state);
     }
     let at = state.length;
     let mut next = state;
@@ -73,65 +87,62 @@ fn take_byte(byte: u8, line: &mut [u8], buffer: &mut [u8], state: State) -> Stat
     next
 }
 
-// Takes all that was read.
-fn take_bytes(read: &[u8], line: &mut [u8], buffer: &mut [u8], state: State) -> State {
+// Takes what was read.
+fn take_bytes(read: &[u8], line: &mut [u8], answers: &mut [u8], state: State) -> State {
     let mut next = state;
     let mut i = 0;
     while i < read.len() {
-        next = take_byte(read[i], line, buffer, next);
+        next = take_byte(read[i], line, answers, next);
+        if !next.more {
+            return next;
+        }
         i += 1;
     }
     next
 }
 
-// Writes what waits. There is more to do while the input goes on and the output is open.
-fn written(buffer: &[u8], state: State, more: bool) -> State {
-    let before = state.output;
-    let after = output::flush(buffer, before);
+// The input has ended: a line without its line feed is answered too.
+fn end_input(line: &[u8], answers: &mut [u8], state: State) {
+    if state.length == 0 {
+        return;
+    }
+    let last = end_line(line, answers, state);
+    written(answers, last.waiting);
+}
+
+// Reads once, takes what came, and writes the answers.
+fn take_some(chunk: &mut [u8], line: &mut [u8], answers: &mut [u8], state: State) -> State {
+    let got = libc::read(STDIN_FILENO, chunk);
+    let count = io::count(got, chunk);
     let mut next = state;
-    next.output = after;
-    next.more = false;
-    if more {
-        next.more = after.open;
+    if count == 0 {
+        next.more = false;
+        if got < 0 {
+            io::write_all(STDERR_FILENO, b"probe: standard input cannot be read\n");
+            return next;
+        }
+        end_input(line, answers, state);
+        return next;
+    }
+    next = take_bytes(&chunk[..count], line, answers, state);
+    if next.more {
+        next.more = written(answers, next.waiting);
+        next.waiting = 0;
     }
     next
 }
 
-// The input has ended: a line without its line feed is answered too.
-fn end_input(line: &[u8], buffer: &mut [u8], state: State) -> State {
-    if 0 < state.length {
-        let last = end_line(line, buffer, state);
-        return written(buffer, last, false);
-    }
-    written(buffer, state, false)
-}
-
-// Reads once, takes what came, and writes the answers.
-fn take_some(chunk: &mut [u8], line: &mut [u8], buffer: &mut [u8], state: State) -> State {
-    let got = libc::read(STDIN_FILENO, chunk);
-    if got < 0 {
-        io::write_all(STDERR_FILENO, b"probe: standard input cannot be read\n");
-        return written(buffer, state, false);
-    }
-    let count = io::count(got, chunk);
-    if count == 0 {
-        return end_input(line, buffer, state);
-    }
-    let taken = take_bytes(&chunk[..count], line, buffer, state);
-    written(buffer, taken, true)
-}
-
 // A proved loop has to end: it counts its turns down from a number that no run uses up.
-fn take_input(chunk: &mut [u8], line: &mut [u8], buffer: &mut [u8]) {
+fn take_input(chunk: &mut [u8], line: &mut [u8], answers: &mut [u8]) {
     let mut state = State {
         length: 0,
         long: false,
-        output: output::new(),
+        waiting: 0,
         more: true,
     };
     let mut turns = u64::MAX;
     while turns > 0 {
-        state = take_some(chunk, line, buffer, state);
+        state = take_some(chunk, line, answers, state);
         if !state.more {
             return;
         }
@@ -142,6 +153,6 @@ fn take_input(chunk: &mut [u8], line: &mut [u8], buffer: &mut [u8]) {
 fn main() {
     let mut chunk = [0u8; 65536];
     let mut line = [0u8; 262143];
-    let mut buffer = [0u8; 65536];
-    take_input(&mut chunk, &mut line, &mut buffer);
+    let mut answers = [0u8; 532480];
+    take_input(&mut chunk, &mut line, &mut answers);
 }

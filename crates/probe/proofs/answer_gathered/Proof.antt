@@ -1,4 +1,4 @@
--- `probe::answer_gathered`: the line that was gathered is within the room for it. Assumes nothing.
+-- `probe::answer_gathered`: the line that was gathered is within its room. Assumes nothing.
 use mathlib.Core.Path.{sym}
 use lib.Seq.{length-take-le}
 use borrow.Author.Needs.{needs}

@@ -1,4 +1,4 @@
--- `probe::take_input`: the turns count down, and the lent arrays keep their lengths. Assumes nothing.
+-- `probe::take_input`: the turns count down, and the rooms keep their lengths. Assumes nothing.
 use mathlib.Core.Path.{_≡_, refl, _∙_}
 use native.Mathlib.Omega.{arith}
 use lib.ListN.{length}
@@ -7,13 +7,10 @@ use Rattle.probe.proofs.take_input.Statement.{statement}
 use Rattle.probe.proofs.take_input.Tie as tie
 
 abbrev Inv-loop : tie.InvT-loop
-Inv-loop chunk₀ line₀ buffer₀ state₀ turns₀ chunk line buffer state turns = (length chunk ≡ length chunk₀) × (length line ≡ length line₀) × (length buffer ≡ length buffer₀)
+Inv-loop chunk₀ line₀ answers₀ state₀ turns₀ chunk line answers state turns = (length chunk ≡ length chunk₀) × (length line ≡ length line₀) × (length answers ≡ length answers₀)
 
 abbrev μ-loop : tie.MeasureT-loop
-μ-loop chunk₀ line₀ buffer₀ state₀ turns₀ chunk line buffer state turns = turns
-
-new-requires : tie.Need-new-requires Inv-loop μ-loop
-new-requires c κs = search needs
+μ-loop chunk₀ line₀ answers₀ state₀ turns₀ chunk line answers state turns = turns
 
 loop-holds : tie.Need-loop-holds Inv-loop μ-loop
 loop-holds c = (refl, refl, refl)
@@ -63,7 +60,6 @@ take-input-spec =
     (tie.spec
     Inv-loop
     μ-loop
-    new-requires
     loop-holds
     take-some-requires
     same-length
