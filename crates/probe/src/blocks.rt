@@ -1,11 +1,18 @@
 // The block's commands. Each has two arguments: bytes, and the output that is lent.
 use crate::cases;
+use block::Corrected;
 
 // The most bytes of an argument.
 const MOST: usize = 8192;
 
 pub fn has(command: &[u8]) -> bool {
-    text::same(command, b"correct")
+    if text::same(command, b"correct") {
+        return true;
+    }
+    if text::same(command, b"read-block") {
+        return true;
+    }
+    text::same(command, b"write-block")
 }
 
 pub fn answer(line: &[u8], answers: &mut [u8], at: usize) -> usize {
@@ -24,13 +31,39 @@ pub fn answer(line: &[u8], answers: &mut [u8], at: usize) -> usize {
     }
     let n = given.count;
     let m = lent.count;
-    correct(&bytes[..n], &mut room[..m], answers, at)
+    call(
+        text::field(line, 0),
+        &bytes[..n],
+        &mut room[..m],
+        answers,
+        at,
+    )
 }
 
-fn correct(received: &[u8], output: &mut [u8], answers: &mut [u8], at: usize) -> usize {
-    let corrected = block::correct(received, output);
+// Calls the command's function and puts its answer.
+fn call(command: &[u8], bytes: &[u8], output: &mut [u8], answers: &mut [u8], at: usize) -> usize {
+    if text::same(command, b"correct") {
+        let corrected = block::correct(bytes, output);
+        return put_corrected(corrected, b"word", output, answers, at);
+    }
+    if text::same(command, b"read-block") {
+        let read = block::read_block(bytes, output);
+        return put_corrected(read, b"information", output, answers, at);
+    }
+    let answer = block::write_block(bytes, output);
+    let answered = cases::put_answer(answers, at, answer, b"block");
+    cases::put_bytes(answers, answered, output)
+}
+
+fn put_corrected(
+    corrected: Corrected,
+    success: &[u8],
+    output: &[u8],
+    answers: &mut [u8],
+    at: usize,
+) -> usize {
     let answer = corrected.answer;
-    let answered = cases::put_answer(answers, at, answer, b"word");
+    let answered = cases::put_answer(answers, at, answer, success);
     let counted = cases::put_number(answers, answered, corrected.count as u64);
     cases::put_bytes(answers, counted, output)
 }
