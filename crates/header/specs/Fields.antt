@@ -1,0 +1,46 @@
+-- Document 01, "The long message channel": header fields stand in the order written, most significant bit first, then the check.
+-- Assumes nothing.
+use Prim.Native.Nat.{ℕ, _+_, _*_, _/_, _%_, _^_}
+use mathlib.Core.Bool.{Bool}
+use mathlib.Core.List.{List, [], _∷_}
+use lib.Dec.{eqb}
+use lib.ListN.{length, replicate}
+use Rattle.header.specs.Check.{check}
+
+-- the bits that fields of these widths have
+abbrev pub total : List ℕ → ℕ
+total [] = 0
+total (w ∷ ws) = w + total ws
+
+-- the number that fields are, of these widths, behind a number before them
+abbrev pub behind : ℕ → List ℕ → List ℕ → ℕ
+behind before [] vs = before
+behind before (w ∷ ws) [] = before
+behind before (w ∷ ws) (v ∷ vs) = behind (before * 2 ^ w + v) ws vs
+
+-- fields in the order written, as one number
+abbrev pub packed : List ℕ → List ℕ → ℕ
+packed ws vs = behind 0 ws vs
+
+-- the fields of a number: each stands above the bits of those after it
+abbrev pub fields : List ℕ → ℕ → List ℕ
+fields [] x = []
+fields (w ∷ ws) x = x / 2 ^ total ws % 2 ^ w ∷ fields ws x
+
+-- a header: its fields, then the check over them
+abbrev pub withCheck : ℕ → ℕ → ℕ
+withCheck n x = x * 64 + check n x
+
+abbrev pub header : List ℕ → List ℕ → ℕ
+header ws vs = withCheck (total ws) (packed ws vs)
+
+-- the check of a header that has n bits before it is right
+abbrev pub holds : ℕ → ℕ → Bool
+holds n h = eqb (check n (h / 64)) (h % 64)
+
+-- the n bytes of a header, and the header that bytes are
+abbrev pub bytesOf : ℕ → ℕ → List ℕ
+bytesOf n h = fields (replicate n 8) h
+
+abbrev pub numberOf : List ℕ → ℕ
+numberOf bytes = packed (replicate (length bytes) 8) bytes
