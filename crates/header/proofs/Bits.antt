@@ -11,8 +11,7 @@ use lib.ListN.{length, getD, set, take, drop, replicate, length-append, length-d
 use lib.Seq.{take-suc-set, take-all}
 use Rattle.gf2.specs.Poly.{divided, checkOf}
 use Rattle.gf2.proofs.Lists.{drop-one}
-use Rattle.gf2.proofs.Remainders.{add-scale-false}
-use Rattle.gf2.proofs.Remainders.{length-check, length-divided}
+use Rattle.gf2.proofs.Remainders.{add-scale-false, length-check, length-divided}
 use Rattle.header.specs.Check.{bit, bits, onto, number, six, check}
 
 pub length-bits : (n x : ℕ) → length (bits n x) ≡ n
@@ -20,16 +19,20 @@ unfolding bits
 length-bits zero x = refl
 length-bits (suc n) x = ap suc (length-bits n x)
 
--- a place more is filled
+-- a place more of a row is filled
+pub fill-turn : {A : Type 0} (row rest whole : List A) (i : ℕ) (v : A) → i < length row → take i row ++ (v ∷ rest) ≡ whole
+    → take (i + 1) (set row i v) ++ rest ≡ whole
+fill-turn {A} row rest whole i v h e =
+    let taken : take (i + 1) (set row i v) ≡ take i row ++ (v ∷ []) = rw add-one (take-suc-set row i v h) in
+    ap (λ (r : List A). r ++ rest) taken ∙ append-assoc (take i row) (v ∷ []) rest ∙ e
+
 pub spread-turn : (row whole : List Bool) (x i left : ℕ) → i < length row → 0 < left → take i row ++ bits left x ≡ whole
     → take (i + 1) (set row i (eqb (x / 2 ^ (left - 1) % 2) 1)) ++ bits (left - 1) x ≡ whole
 unfolding bits
 spread-turn row whole x i zero h l e = absurd (omega arith)
 spread-turn row whole x i (suc k) h l e =
     let less : suc k - 1 ≡ k = omega arith in
-    let b = eqb (x / 2 ^ k % 2) 1 in
-    let taken : take (i + 1) (set row i b) ≡ take i row ++ (b ∷ []) = rw add-one (take-suc-set row i b h) in
-    rw less (ap (λ r. r ++ bits k x) taken ∙ append-assoc (take i row) (b ∷ []) (bits k x) ∙ e)
+    rw less (fill-turn row (bits k x) whole i (eqb (x / 2 ^ k % 2) 1) h e)
 
 pub spread-end : (row whole : List Bool) (x i left : ℕ) → left ≡ 0 → take i row ++ bits left x ≡ whole → take i row ++ [] ≡ whole
 unfolding bits

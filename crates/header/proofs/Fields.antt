@@ -3,7 +3,7 @@ use Prim.Native.Nat.{ℕ, zero, suc, _+_, _-_, _*_, _/_, _%_, _^_, _<_, _≤_}
 use mathlib.Core.Path.{_≡_, refl, sym, ap, _∙_}
 use mathlib.Core.Bool.{true}
 use mathlib.Core.List.{List, [], _∷_}
-use native.Mathlib.Nat.{mul-comm, mul-assoc, add-mul, add-assoc, mul-le-mul-right, div-one, div-div-eq-div-mul, div-add-mod', mod-lt, mod-one, mod-eq-of-lt, mul-add-div-right, mul-add-mod-self-right, div-eq-of-lt, add-zero}
+use native.Mathlib.Nat.{mul-comm, mul-assoc, add-mul, add-assoc, mul-le-mul-right, div-one, div-div-eq-div-mul, div-add-mod', mod-lt, mod-one, mod-eq-of-lt, mul-add-div-right, mul-add-mod-self-right, div-eq-of-lt, add-zero, zero-mul}
 use native.Mathlib.Omega.{arith}
 use borrow.Author.Tests.{eq-eqb, eqb-true}
 use lib.ListN.{length, replicate}
@@ -32,6 +32,14 @@ before-fields before (w ∷ ws) (v ∷ vs) f =
     ∙ mul-add-div-right (pow-pos w) before v
     ∙ ap (λ (n : ℕ). before + n) (div-eq-of-lt (f .0))
     ∙ add-zero before
+
+-- fields that fit have no more bits than their widths
+pub packed-lt : (ws vs : List ℕ) → Fit ws vs → packed ws vs < 2 ^ total ws
+packed-lt ws vs f =
+    let x = packed ws vs in
+    let t = 2 ^ total ws in
+    let none : x / t * t ≡ 0 = ap (λ (n : ℕ). n * t) (before-fields 0 ws vs f) ∙ zero-mul t in
+    omega (arith, div-add-mod' x t, mod-lt x (pow-pos (total ws)))
 
 -- FIELDS WRITTEN ARE READ
 pub fields-behind : (before : ℕ) (ws vs : List ℕ) → Fit ws vs → fields ws (behind before ws vs) ≡ vs
@@ -100,7 +108,7 @@ header-again ws h e l =
 
 -- ---- bytes
 
-total-bytes : (n : ℕ) → total (replicate n 8) ≡ 8 * n
+pub total-bytes : (n : ℕ) → total (replicate n 8) ≡ 8 * n
 total-bytes zero = refl
 total-bytes (suc n) = omega (arith, total-bytes n)
 

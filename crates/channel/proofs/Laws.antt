@@ -1,0 +1,67 @@
+-- Laws that several proofs of this crate cite. Assumes nothing.
+use Prim.Native.Nat.{ℕ, _+_, _-_, _%_, _^_, _≤_, _<_}
+use mathlib.Core.Path.{_≡_, refl, sym, ap, _∙_}
+use mathlib.Core.Bool.{Bool, true, false}
+use native.Mathlib.Omega.{arith}
+use borrow.Author.Tests.{eqb-true, leb-true}
+use lib.Dec.{eqb, leb}
+use Rattle.header.specs.Check.{check}
+use Rattle.header.proofs.Bits.{check-wider, check-fits}
+use Rattle.channel.specs.Rules.{both}
+use Rattle.channel.specs.Layer4.{sizeOf}
+use Rattle.channel.specs.Writer.{within}
+use Rattle.channel.specs.declared.writer.Fields.{Fields}
+use Rattle.channel.specs.State.{keepsRule, phaseHolds}
+use Rattle.channel.specs.declared.Channel.{Channel}
+use Rattle.channel.specs.declared.Phase.{Phase}
+use Rattle.channel.specs.declared.Phase.the-variants.{Waiting, Ready, Gathering}
+
+pub both-true : (a b : Bool) → both a b ≡ true → (a ≡ true) × (b ≡ true)
+both-true true b e = (refl, e)
+both-true false b e = (e, let z : false ≡ true = e in cc)
+
+-- a state that keeps its rule holds at most 260 bytes, in twenties
+phase-bytes : (p : Phase) (n sc : ℕ) → phaseHolds p n sc ≡ true → (n ≤ 260) × (n % 20 ≡ 0)
+phase-bytes Waiting n sc e = let h = eqb-true n 0 (both-true (eqb n 0) (eqb sc 0) e .0) in omega arith
+phase-bytes Ready n sc e = let h = eqb-true n 0 e in omega arith
+phase-bytes Gathering n sc e =
+    let m = eqb (n % 20) 0 in
+    let r = both-true (leb n 260) m (both-true (leb 20 n) (both (leb n 260) m) e .1) in
+    (leb-true n 260 (r .0), eqb-true (n % 20) 0 (r .1))
+
+module _ (c : Channel) (e : keepsRule c ≡ true) where
+  parts : (leb (c .expected) 15 ≡ true) × (phaseHolds (c .phase) (c .gathered) (c .expected) ≡ true)
+  unfolding keepsRule
+  parts = both-true (leb (c .expected) 15) (phaseHolds (c .phase) (c .gathered) (c .expected)) e
+
+  pub rule-bytes : (c .gathered ≤ 260) × (c .gathered % 20 ≡ 0)
+  rule-bytes = phase-bytes (c .phase) (c .gathered) (c .expected) (parts .1)
+
+  pub rule-sc : c .expected < 16
+  rule-sc = let h = leb-true (c .expected) 15 (parts .0) in omega arith
+
+-- the check over all 64 bits is that over a header's own
+pub check-at : (n k x : ℕ) → n + k ≡ 64 → x < 2 ^ n → check 64 x ≡ check n x
+check-at n k x e h = ap (λ (m : ℕ). check m x) (sym e) ∙ check-wider n k x h
+
+pub check-small : (x k : ℕ) → k ≡ check 64 x → k < 64
+check-small x k e = rw e (check-fits 64 x)
+
+-- what the writer takes
+pub within-widths : (m : Fields) (sc d : ℕ) → within m sc d ≡ true → (m .ri < 4) × (m .ci < 4) × (m .number < 16384) × (sc < 16) × (d ≤ 255)
+unfolding within
+within-widths m sc d e =
+    let a = leb (m .ri) 3 in
+    let b = leb (m .ci) 3 in
+    let n = leb (m .number) 16383 in
+    let s = leb sc 15 in
+    let l = leb d 255 in
+    let t = both-true a (both b (both n (both s l))) e in
+    let u = both-true b (both n (both s l)) (t .1) in
+    let v = both-true n (both s l) (u .1) in
+    let w = both-true s l (v .1) in
+    omega (arith, leb-true (m .ri) 3 (t .0), leb-true (m .ci) 3 (u .0), leb-true (m .number) 16383 (v .0), leb-true sc 15 (w .0), leb-true d 255 (w .1))
+
+pub size-room : (ext : Bool) → (sizeOf ext ≤ 5) × (4 ≤ sizeOf ext)
+size-room true = omega arith
+size-room false = omega arith

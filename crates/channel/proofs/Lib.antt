@@ -1,0 +1,11 @@
+pub mod Rows
+pub mod Laws
+pub mod Headers
+pub mod Steps
+pub mod Writing
+pub mod HeaderBack
+pub mod ReadBack
+pub mod Rule
+pub mod Determined
+pub mod WrittenAgain
+pub mod BlocksAgain

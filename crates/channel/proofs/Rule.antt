@@ -1,0 +1,65 @@
+-- A STATE THAT KEEPS ITS RULE STILL KEEPS IT AFTER ANY STEP. Assumes nothing.
+use Prim.Native.Nat.{ℕ, _+_, _%_, _≤_}
+use mathlib.Core.Path.{_≡_, refl}
+use mathlib.Core.Bool.{Bool, true, false}
+use mathlib.Core.List.{List}
+use native.Mathlib.Omega.{arith}
+use borrow.Author.Tests.{ltb-true}
+use lib.Dec.{eqb, ltb}
+use lib.ListN.{length, drop}
+use lib.Seq.{paste}
+use Rattle.header.specs.Fields.{holds}
+use Rattle.channel.specs.Answers.{Left}
+use Rattle.channel.specs.Rules.{unless}
+use Rattle.channel.specs.Layer3.{headerOf, field3, lfOf, scOf}
+use Rattle.channel.specs.State.{fresh, keepsRule, asWaiting, joined, followed, inPhase, advanced, stepOf}
+use Rattle.channel.specs.declared.Channel.{Channel}
+use Rattle.channel.specs.declared.Phase.{Phase}
+use Rattle.channel.specs.declared.Phase.the-variants.{Waiting, Ready, Gathering}
+use Rattle.channel.proofs.Laws.{rule-bytes}
+use Rattle.channel.proofs.ReadBack.{next-rule, ready-rule}
+
+abbrev Kept : Left → Type 0
+Kept l = keepsRule (l .channel) ≡ true
+
+unless-kept : (b : Bool) (x y : Left) → Kept x → (b ≡ true → Kept y) → Kept (unless b x y)
+unless-kept true x y kx ky = ky refl
+unless-kept false x y kx ky = kx
+
+waiting-kept : (c : Channel) (lf : Bool) (sc : ℕ) → keepsRule (asWaiting c lf sc) ≡ true
+unfolding asWaiting keepsRule
+waiting-kept c true sc = ready-rule (c .bytes) (sc + 1)
+waiting-kept c false sc = refl
+
+joined-kept : (bytes : List ℕ) (n : ℕ) (lf : Bool) (sc : ℕ) → n + 20 ≤ 260 → n % 20 ≡ 0 → Kept (joined bytes (n + 20) lf ((sc + 1) % 16))
+unfolding joined
+joined-kept bytes n true sc h k = ready-rule bytes (sc + 1)
+joined-kept bytes n false sc h k = next-rule bytes n sc h k
+
+followed-kept : (c : Channel) (lf : Bool) (sc : ℕ) (twenty : List ℕ) → keepsRule c ≡ true → Kept (followed c lf sc twenty)
+unfolding followed
+followed-kept c lf sc twenty rule =
+    let r = rule-bytes c rule in
+    unless-kept (eqb sc (c .expected)) _ _ (waiting-kept c lf sc)
+    (λ e. unless-kept (ltb (c .gathered) 260) _ _ (waiting-kept c lf sc)
+    (λ l. let room = ltb-true (c .gathered) 260 l in
+    joined-kept (paste (c .bytes) (c .gathered) twenty 20) (c .gathered) lf sc (omega arith) (r .1)))
+
+phase-kept : (p : Phase) (c : Channel) (lf : Bool) (sc : ℕ) (twenty : List ℕ) → keepsRule c ≡ true → Kept (inPhase p c lf sc twenty)
+phase-kept Waiting c lf sc twenty rule = waiting-kept c lf sc
+phase-kept Ready c lf sc twenty rule = followed-kept c lf sc twenty rule
+phase-kept Gathering c lf sc twenty rule = followed-kept c lf sc twenty rule
+
+pub rule-kept : (c : Channel) (information : List ℕ) → keepsRule c ≡ true → keepsRule (stepOf c information .channel) ≡ true
+unfolding stepOf advanced
+rule-kept c information rule =
+    let h = headerOf information in
+    unless-kept (keepsRule c) _ _ rule
+    (λ a. unless-kept (eqb (length information) 22) _ _ rule
+    (λ b. unless-kept (eqb (field3 0 h) 10) _ _ rule
+    (λ d. unless-kept (holds 10 h) _ _ rule
+    (λ e. phase-kept (c .phase) c (lfOf h) (scOf h) (drop 2 information) rule))))
+
+pub fresh-rule : keepsRule fresh ≡ true
+unfolding keepsRule fresh
+fresh-rule = refl

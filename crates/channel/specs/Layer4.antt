@@ -1,0 +1,83 @@
+-- Document 01, "Layer 4 header, 32 or 40 bits", and what the gathered bytes of a message are, test by test. Assumes nothing.
+use Prim.Native.Nat.{ℕ, _+_, _*_, _/_, _%_}
+use mathlib.Core.Bool.{Bool, true, not, cond}
+use mathlib.Core.List.{List, [], _∷_}
+use lib.Dec.{eqb, leb}
+use lib.ListN.{length, getD, take, drop}
+use Rattle.header.specs.Fields.{total, fields, holds, numberOf}
+use Rattle.channel.specs.Rules.{unless, both}
+use Rattle.channel.specs.Answers.{Outcome, message, refused}
+use Rattle.channel.specs.declared.layer4.Opened.{Opened}
+
+-- where EXT is 1; a field that a header does not have is 0 bits wide
+abbrev pub only : Bool → ℕ → ℕ
+only ext width = cond ext width 0
+
+-- RI 2, CI 2, First 1, Last 1, EXT 1, ADD 9, then where EXT is 1: EXT ADD 5 and RFA 3; COM 1, CAF 1, data length 8; and the check
+abbrev pub layer4 : Bool → List ℕ
+layer4 ext = 2 ∷ 2 ∷ 1 ∷ 1 ∷ 1 ∷ 9 ∷ only ext 5 ∷ only ext 3 ∷ 1 ∷ 1 ∷ 8 ∷ []
+
+-- the header's bytes
+abbrev pub sizeOf : Bool → ℕ
+sizeOf ext = cond ext 5 4
+
+-- the field at a place of that list
+abbrev pub field : List ℕ → ℕ → ℕ → ℕ
+field widths i h = getD (fields widths (h / 64)) i 0
+
+abbrev pub flag : List ℕ → ℕ → ℕ → Bool
+flag widths i h = eqb (field widths i h) 1
+
+-- a header as it stands; the service number is ADD, or 512 x EXT ADD + ADD with EXT
+unfoldable pub opened : Bool → ℕ → Opened
+opened ext h =
+    record {
+      header = record {
+        ri = field (layer4 ext) 0 h;
+        ci = field (layer4 ext) 1 h;
+        first = flag (layer4 ext) 2 h;
+        last = flag (layer4 ext) 3 h;
+        ext = ext;
+        number = 512 * field (layer4 ext) 6 h + field (layer4 ext) 5 h;
+        command = flag (layer4 ext) 8 h;
+        length = field (layer4 ext) 10 h;
+        size = sizeOf ext;
+      };
+      rfa = field (layer4 ext) 7 h;
+      caf = flag (layer4 ext) 9 h;
+      checked = holds (total (layer4 ext)) h;
+    }
+
+-- EXT is the seventh bit of the first byte
+abbrev pub extOf : List ℕ → Bool
+extOf bytes = eqb (getD bytes 0 0 / 2 % 2) 1
+
+unfoldable pub openedAt : List ℕ → Opened
+openedAt bytes = opened (extOf bytes) (numberOf (take (sizeOf (extOf bytes)) bytes))
+
+-- a number below 512 is written without EXT, a greater one with it; without EXT there is no room for a greater one
+abbrev pub rightForm : Bool → ℕ → Bool
+rightForm ext number = cond ext (leb 512 number) true
+
+-- the least number of 20-byte blocks that holds n bytes
+abbrev pub blocksFor : ℕ → ℕ
+blocksFor n = (n + 19) / 20
+
+abbrev pub zeros : List ℕ → Bool
+zeros [] = true
+zeros (b ∷ bytes) = both (eqb b 0) (zeros bytes)
+
+-- CAF set (6); header check (4); RFA, or the wrong EXT form (6); over 260 bytes (14); wrong block count (7); padding (7); else "message"
+unfoldable pub tested : Opened → List ℕ → Outcome
+tested o bytes =
+    unless (not (o .caf)) (refused 6)
+    (unless (o .checked) (refused 4)
+    (unless (eqb (o .rfa) 0) (refused 6)
+    (unless (rightForm (o .header .ext) (o .header .number)) (refused 6)
+    (unless (leb (o .header .size + o .header .length) 260) (refused 14)
+    (unless (eqb (blocksFor (o .header .size + o .header .length) * 20) (length bytes)) (refused 7)
+    (unless (zeros (drop (o .header .size + o .header .length) bytes)) (refused 7)
+    (message (o .header))))))))
+
+unfoldable pub messageOf : List ℕ → Outcome
+messageOf bytes = tested (openedAt bytes) bytes

@@ -1,0 +1,7 @@
+pub mod Rules
+pub mod Answers
+pub mod Layer3
+pub mod Layer4
+pub mod State
+pub mod Writer
+pub mod Reading

@@ -1,0 +1,93 @@
+// The long message channel of document 01, layers 3 and 4: a channel state takes information blocks of 22 bytes and
+// gives messages, and the message writer gives the blocks of a message.
+ghost use mathlib.Core.Path.{_≡_};
+ghost use Rattle.channel.specs.Answers.{paper};
+ghost use Rattle.channel.specs.State.{fresh, stepOf};
+
+mod layer4;
+mod row;
+mod state;
+pub mod writer;
+
+use answers::Refusal;
+
+pub enum Phase {
+    Waiting,
+    Ready,
+    Gathering,
+}
+
+// A channel: the bytes gathered so far stand in front, and `expected` is the SC of the next block.
+pub struct Channel {
+    pub bytes: [u8; 260],
+    pub gathered: usize,
+    pub phase: Phase,
+    pub expected: u8,
+}
+
+// The header of a message: its fields but for RFA and CAF, which are zero; `number` is the service number, `length`
+// that of the data, and `size` that of the header, so that the data stands from byte `size` of the channel.
+pub struct Header {
+    pub ri: u8,
+    pub ci: u8,
+    pub first: bool,
+    pub last: bool,
+    pub ext: bool,
+    pub number: u16,
+    pub command: bool,
+    pub length: usize,
+    pub size: usize,
+}
+
+pub enum Step {
+    Taken,
+    Message(Header),
+    Refused(Refusal),
+}
+
+pub struct Stepped {
+    pub answer: Step,
+    pub channel: Channel,
+}
+
+impl Channel {
+    // A fresh channel waits for the end of a message.
+    pub fn new() -> Channel
+        ensures { λ r. ⌜ r ≡ fresh ⌝ }
+    {
+        Channel {
+            bytes: [0u8; 260],
+            gathered: 0,
+            phase: Phase::Waiting,
+            expected: 0,
+        }
+    }
+
+    // Takes one information block. Refused, with the channel as it stood: a state outside its rule (11), another
+    // length than 22 (1), another channel (5), a wrong check (4). Then 8, 9, "taken", or what the message's own tests
+    // say (6, 4, 14, 7, or the message), with the channel that the rules of state.rt leave.
+    pub fn step(self, information: &[u8]) -> Stepped
+        ensures { λ r. ⌜ paper r ≡ stepOf self (now (information .entry)) ⌝ }
+    {
+        if !state::keeps_rule(self) {
+            return state::refused(Refusal::OutsideRule, self);
+        }
+        if information.len() != 22 {
+            return state::refused(Refusal::WrongLength, self);
+        }
+        let h = row::number(&information[..2]);
+        let fields = h / 64;
+        if fields / 64 % 16 != 10 {
+            return state::refused(Refusal::OtherChannel, self);
+        }
+        if header::check(fields) != h % 64 {
+            return state::refused(Refusal::HeaderCheck, self);
+        }
+        state::advance(
+            self,
+            fields / 16 % 2 == 1,
+            (fields % 16) as u8,
+            &information[2..],
+        )
+    }
+}

@@ -1,0 +1,140 @@
+// The channel's state: its rule, and what a block with a right header does to it.
+ghost use mathlib.Core.Bool.{true};
+ghost use mathlib.Core.Path.{_≡_};
+ghost use Prim.Native.Nat.{_*_, _+_, _<_, _≤_, _%_};
+ghost use lib.ListN.{length};
+ghost use lib.Seq.{paste};
+ghost use Rattle.answers.specs.Numbers.{numberOf};
+ghost use Rattle.channel.specs.Answers.{paper, leaves, refused};
+ghost use Rattle.channel.specs.State.{keepsRule, asWaiting, joined, followed, advanced};
+use crate::Channel;
+use crate::Phase;
+use crate::Step;
+use crate::Stepped;
+use crate::layer4;
+use crate::row;
+use answers::Refusal;
+
+pub fn refused(refusal: Refusal, channel: Channel) -> Stepped
+    ensures { λ r. ⌜ paper r ≡ leaves (refused (numberOf refusal)) channel ⌝ }
+{
+    Stepped {
+        answer: Step::Refused(refusal),
+        channel,
+    }
+}
+
+// Whether length and expected SC are as the phase has them.
+pub fn keeps_rule(channel: Channel) -> bool
+    ensures { λ r. ⌜ r ≡ keepsRule channel ⌝ }
+{
+    let phase = channel.phase;
+    let n = channel.gathered;
+    let sc = channel.expected;
+    if 15 < sc {
+        return false;
+    }
+    match phase {
+        Phase::Waiting => if n == 0 { sc == 0 } else { false },
+        Phase::Ready => n == 0,
+        Phase::Gathering => {
+            if n < 20 {
+                return false;
+            }
+            if 260 < n {
+                return false;
+            }
+            n % 20 == 0
+        }
+    }
+}
+
+// A block with a right header, by its LF, its SC and its twenty bytes.
+pub fn advance(channel: Channel, lf: bool, sc: u8, twenty: &[u8]) -> Stepped
+    requires { ⌜ (keepsRule channel ≡ true) × (sc < 16) × (length (now twenty) ≡ 20) ⌝ }
+    ensures { λ r. ⌜ paper r ≡ advanced channel lf sc (now (twenty .entry)) ⌝ }
+{
+    let phase = channel.phase;
+    match phase {
+        Phase::Waiting => refused(Refusal::OutOfStep, as_waiting(channel, lf, sc)),
+        Phase::Ready => follow(channel, lf, sc, twenty),
+        Phase::Gathering => follow(channel, lf, sc, twenty),
+    }
+}
+
+// An SC is expected: any other drops what was gathered, and so does a fourteenth block.
+fn follow(channel: Channel, lf: bool, sc: u8, twenty: &[u8]) -> Stepped
+    requires { ⌜ (sc < 16) × (channel .gathered ≤ 260) × (channel .gathered % 20 ≡ 0) × (length (now twenty) ≡ 20) ⌝ }
+    ensures { λ r. ⌜ paper r ≡ followed channel lf sc (now (twenty .entry)) ⌝ }
+{
+    if sc != channel.expected {
+        return refused(Refusal::OutOfStep, as_waiting(channel, lf, sc));
+    }
+    let at = channel.gathered;
+    if 260 <= at {
+        return refused(Refusal::TooMany, as_waiting(channel, lf, sc));
+    }
+    let bytes = channel.bytes;
+    gather(join(bytes, at, twenty), at + 20, lf, (sc + 1) % 16)
+}
+
+// As waiting: LF makes the channel ready for the next block. No byte changes.
+fn as_waiting(channel: Channel, lf: bool, sc: u8) -> Channel
+    requires { ⌜ sc < 16 ⌝ }
+    ensures { λ r. ⌜ r ≡ asWaiting channel lf sc ⌝ }
+{
+    let bytes = channel.bytes;
+    if lf {
+        Channel {
+            bytes,
+            gathered: 0,
+            phase: Phase::Ready,
+            expected: (sc + 1) % 16,
+        }
+    } else {
+        Channel {
+            bytes,
+            gathered: 0,
+            phase: Phase::Waiting,
+            expected: 0,
+        }
+    }
+}
+
+// Joins twenty bytes on.
+fn join(bytes: [u8; 260], at: usize, twenty: &[u8]) -> [u8; 260]
+    requires { ⌜ (at ≤ 240) × (length (now twenty) ≡ 20) ⌝ }
+    ensures { λ r. ⌜ r ≡ paste bytes at (now (twenty .entry)) 20 ⌝ }
+{
+    let mut joined = bytes;
+    row::put(twenty, &mut joined, at);
+    joined
+}
+
+// What n gathered bytes lead to: with LF they are read as a message, and the channel is ready for the next.
+fn gather(bytes: [u8; 260], n: usize, lf: bool, next: u8) -> Stepped
+    requires { ⌜ (20 ≤ n) × (n ≤ 260) ⌝ }
+    ensures { λ r. ⌜ paper r ≡ joined bytes n lf next ⌝ }
+{
+    if lf {
+        let answer = layer4::read(&bytes[..n]);
+        let channel = Channel {
+            bytes,
+            gathered: 0,
+            phase: Phase::Ready,
+            expected: next,
+        };
+        Stepped { answer, channel }
+    } else {
+        let channel = Channel {
+            bytes,
+            gathered: n,
+            phase: Phase::Gathering,
+            expected: next,
+        };
+        Stepped {
+            answer: Step::Taken,
+            channel,
+        }
+    }
+}
