@@ -1,8 +1,11 @@
 // What the commands share: reading an argument of a line, and putting an answer.
+ghost use Prim.Native.Nat.{_≤_};
 ghost use Rattle.io.specs.Counts.{Counts};
 use crate::put;
 use answers::Answer;
 use text::Bytes;
+use text::Flag;
+use text::Number;
 
 // The line is no case.
 pub fn bad(room: &mut [u8], at: usize) -> usize {
@@ -57,4 +60,69 @@ pub fn put_bytes(room: &mut [u8], at: usize, bytes: &[u8]) -> usize {
     let parted = put::byte(room, at, b'\t');
     let end = put::bytes(room, parted, bytes);
     put::byte(room, end, b'\n')
+}
+
+// A further field, which is a word.
+pub fn put_word(room: &mut [u8], at: usize, word: &[u8]) -> usize {
+    let parted = put::byte(room, at, b'\t');
+    put::word(room, parted, word)
+}
+
+// A further field, which is a flag.
+pub fn put_flag(room: &mut [u8], at: usize, flag: bool) -> usize {
+    if flag {
+        return put_word(room, at, b"1");
+    }
+    put_word(room, at, b"0")
+}
+
+// Whether an argument is a number, at most so great.
+pub fn is_number(line: &[u8], index: usize, most: u32) -> bool {
+    match text::read_number(text::field(line, index), most) {
+        Number::Is(_) => true,
+        Number::Unreadable => false,
+    }
+}
+
+// The number of an argument that is one, at most so great, else 0.
+pub fn number_at(line: &[u8], index: usize, most: u32) -> u32
+    ensures { λ r. ⌜ r ≤ most ⌝ }
+{
+    match text::read_number(text::field(line, index), most) {
+        Number::Is(number) => {
+            if most < number {
+                return 0;
+            }
+            number
+        }
+        Number::Unreadable => 0,
+    }
+}
+
+// A number below 256, of an argument that is one.
+pub fn small_at(line: &[u8], index: usize) -> u8 {
+    number_at(line, index, 255) as u8
+}
+
+// A number below 65,536, of an argument that is one.
+pub fn middle_at(line: &[u8], index: usize) -> u16 {
+    number_at(line, index, 65535) as u16
+}
+
+// Whether an argument is a flag.
+pub fn is_flag(line: &[u8], index: usize) -> bool {
+    match text::read_flag(text::field(line, index)) {
+        Flag::Clear => true,
+        Flag::Set => true,
+        Flag::Unreadable => false,
+    }
+}
+
+// Whether an argument is a flag that is set.
+pub fn flag_at(line: &[u8], index: usize) -> bool {
+    match text::read_flag(text::field(line, index)) {
+        Flag::Clear => false,
+        Flag::Set => true,
+        Flag::Unreadable => false,
+    }
 }

@@ -2,6 +2,7 @@
 // line for each case. docs/PROBE.md has the notation. Each area has a module, with a function for each of its commands.
 mod blocks;
 mod cases;
+mod messages;
 mod put;
 
 use libc::STDERR_FILENO;
@@ -27,6 +28,9 @@ fn answer(line: &[u8], answers: &mut [u8], at: usize) -> usize {
     let command = text::field(line, 0);
     if blocks::has(command) {
         return blocks::answer(line, answers, at);
+    }
+    if messages::has(command) {
+        return messages::answer(line, answers, at);
     }
     cases::bad(answers, at)
 }
