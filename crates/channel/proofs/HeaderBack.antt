@@ -11,9 +11,9 @@ use lib.ListN.{length, getD, take, drop, replicate, length-append, List·getD-ap
 use lib.Pow.{pow-pos}
 use lib.Seq.{take-at, drop-at}
 use Rattle.header.specs.Check.{bit}
-use Rattle.header.specs.Fields.{total, fields, packed, header, withCheck, bytesOf, numberOf}
+use Rattle.header.specs.Fields.{Fit, total, fields, packed, header, withCheck, bytesOf, numberOf}
 use Rattle.header.proofs.Bits.{bit-lt, check-fits}
-use Rattle.header.proofs.Fields.{Fit, packed-lt, header-read, check-holds, bytes-number}
+use Rattle.header.proofs.Fields.{packed-lt, header-read, check-holds, bytes-number}
 use Rattle.channel.specs.Answers.{message}
 use Rattle.channel.specs.Layer4.{only, layer4, sizeOf, opened, extOf, openedAt, blocksFor, zeros, rightForm, tested, messageOf}
 use Rattle.channel.specs.Writer.{valuesOf, headerBytes, blocksOf, messageBytes}

@@ -7,7 +7,8 @@ use native.Mathlib.Nat.{div-one}
 use native.Mathlib.Omega.{arith}
 use lib.Dec.{eqb}
 use Rattle.header.specs.Check.{check}
-use Rattle.channel.specs.Layer4.{sizeOf, layer4, field, opened, openedAt, extOf}
+use Rattle.header.specs.Fields.{field}
+use Rattle.channel.specs.Layer4.{sizeOf, layer4, opened, openedAt, extOf}
 use Rattle.channel.specs.declared.layer4.Opened.{Opened}
 use Rattle.channel.proofs.Laws.{check-at}
 

@@ -7,5 +7,5 @@ pub mod HeaderBack
 pub mod ReadBack
 pub mod Rule
 pub mod Determined
+pub mod MessageAgain
 pub mod WrittenAgain
-pub mod BlocksAgain

@@ -9,23 +9,24 @@ use lib.Dec.{eqb, leb, eqb·suc-zero}
 use lib.ListN.{length, getD, take, drop, replicate, length-drop, take-append-drop}
 use lib.Seq.{paste, take-paste, length-paste, take-all, take-length, take-at, drop-at, length-take-le}
 use Rattle.header.specs.Check.{bit}
-use Rattle.header.specs.Fields.{packed, header, fields, bytesOf}
+use Rattle.header.specs.Fields.{Fit, packed, header, fields, bytesOf}
 use Rattle.header.proofs.Bits.{bit-lt, check-fits}
-use Rattle.header.proofs.Fields.{Fit, header-read, check-holds, packed-lt, bytes-number}
+use Rattle.header.proofs.Fields.{header-read, check-holds, packed-lt, bytes-number}
 use Rattle.channel.specs.Answers.{Outcome, taken, message, leaves, Left}
 use Rattle.channel.specs.Layer3.{layer3, headerOf, blockOf}
-use Rattle.channel.specs.Layer4.{sizeOf, messageOf}
+use Rattle.channel.specs.Layer4.{sizeOf, messageOf, openedAt}
 use Rattle.channel.specs.State.{keepsRule, phaseHolds, channelOf, joined, followed, inPhase, advanced, stepOf}
 use Rattle.channel.specs.Writer.{headerFor, headerBytes, blocksOf, messageBytes, cut, messageBlocks, within}
-use Rattle.channel.specs.Reading.{answersOf, channelAfter}
+use Rattle.channel.specs.Reading.{answersOf, channelAfter, Listens, ReadBack}
 use Rattle.channel.specs.declared.Header.{Header}
 use Rattle.channel.specs.declared.Channel.{Channel}
+use Rattle.channel.specs.declared.layer4.Opened.{Opened}
 use Rattle.channel.specs.declared.Phase.{Phase}
 use Rattle.channel.specs.declared.Phase.the-variants.{Waiting, Ready, Gathering}
 use Rattle.channel.specs.declared.writer.Fields.{Fields}
 use Rattle.channel.proofs.Laws.{both-true, rule-bytes, rule-sc, within-widths, size-room}
 use Rattle.channel.proofs.Writing.{paste-paste, header-length, message-length}
-use Rattle.channel.proofs.HeaderBack.{Right, bit-is, message-back}
+use Rattle.channel.proofs.HeaderBack.{Right, bit-is, message-back, header-back}
 
 -- ---- one block
 
@@ -121,12 +122,6 @@ run-back (suc j) c di row p rule full long room =
 
 -- ---- a message
 
--- a channel that can take a message: ready, its rule kept, and its 260 bytes there
-pub record Listens (c : Channel) : Type 0 where
-  pub ready : c .phase ≡ Ready
-  pub rule : keepsRule c ≡ true
-  pub full : length (c .bytes) ≡ 260
-
 pub ready-none : (c : Channel) → Listens c → c .gathered ≡ 0
 unfolding keepsRule
 ready-none c l = eqb-true (c .gathered) 0 (rw (l .ready) at (both-true (leb (c .expected) 15) (phaseHolds (c .phase) (c .gathered) (c .expected)) (l .rule) .1))
@@ -139,14 +134,6 @@ pub right-header : (m : Fields) (sc d : ℕ) → within m sc d ≡ true → Righ
 right-header m sc d e =
     let w = within-widths m sc d e in
     record { ri = w .0; ci = w .1; number = w .2; few = w .4; ext = refl; size = refl }
-
--- a message's blocks, from a channel that listens and expects their first SC: "taken" .. "message" with every header field, and the
--- channel listens again, expects the SC after the last block's, and holds the data from byte h on
-pub record ReadBack (m : Fields) (di : Bool) (s : List ℕ) (c : Channel) : Type 0 where
-  pub answers : answersOf c (messageBlocks m di (c .expected) s) ≡ replicate (blocksOf (headerFor m (length s)) - 1) taken ++ (message (headerFor m (length s)) ∷ [])
-  pub listens : Listens (channelAfter c (messageBlocks m di (c .expected) s))
-  pub expected : channelAfter c (messageBlocks m di (c .expected) s) .expected ≡ (c .expected + blocksOf (headerFor m (length s))) % 16
-  pub stands : take (length s) (drop (headerFor m (length s) .size) (channelAfter c (messageBlocks m di (c .expected) s) .bytes)) ≡ s
 
 -- header, data and padding stand from the front on
 data-stands : (h : Header) (s bytes : List ℕ) → take (length s) (drop (sizeOf (h .ext)) (paste bytes 0 (messageBytes h s) (length (messageBytes h s)))) ≡ s
@@ -161,6 +148,11 @@ data-stands h s bytes =
     ∙ ap (take (length s)) (drop-at (headerBytes h) (s ++ (pad ++ behind)) (sizeOf (h .ext)) (header-length h))
     ∙ take-at s (pad ++ behind) (length s) refl
 
+-- A HEADER WRITTEN READS BACK AS THE SAME FIELDS
+pub fields-back : (m : Fields) (sc d : ℕ) (rest : List ℕ) → within m sc d ≡ true → openedAt (headerBytes (headerFor m d) ++ rest) .header ≡ headerFor m d
+fields-back m sc d rest e = ap (λ (o : Opened). o .header) (header-back (headerFor m d) (right-header m sc d e) rest)
+
+-- A MESSAGE WRITTEN READS BACK
 pub read-back : (m : Fields) (di : Bool) (s : List ℕ) (c : Channel) → Listens c → within m (c .expected) (length s) ≡ true → ReadBack m di s c
 unfolding messageBlocks
 read-back m di s c l w =

@@ -8,10 +8,10 @@ use borrow.Author.Tests.{ltb-true}
 use lib.Dec.{eqb, ltb}
 use lib.ListN.{length, drop}
 use lib.Seq.{paste}
-use Rattle.header.specs.Fields.{holds}
+use Rattle.header.specs.Fields.{field, holds}
 use Rattle.channel.specs.Answers.{Left}
 use Rattle.channel.specs.Rules.{unless}
-use Rattle.channel.specs.Layer3.{headerOf, field3, lfOf, scOf}
+use Rattle.channel.specs.Layer3.{layer3, headerOf, lfOf, scOf}
 use Rattle.channel.specs.State.{fresh, keepsRule, asWaiting, joined, followed, inPhase, advanced, stepOf}
 use Rattle.channel.specs.declared.Channel.{Channel}
 use Rattle.channel.specs.declared.Phase.{Phase}
@@ -56,7 +56,7 @@ rule-kept c information rule =
     let h = headerOf information in
     unless-kept (keepsRule c) _ _ rule
     (λ a. unless-kept (eqb (length information) 22) _ _ rule
-    (λ b. unless-kept (eqb (field3 0 h) 10) _ _ rule
+    (λ b. unless-kept (eqb (field layer3 0 h) 10) _ _ rule
     (λ d. unless-kept (holds 10 h) _ _ rule
     (λ e. phase-kept (c .phase) c (lfOf h) (scOf h) (drop 2 information) rule))))
 

@@ -1,201 +1,266 @@
--- AN ACCEPTED MESSAGE, WRITTEN AGAIN, IS THE SAME: header, data and padding, and with its first SC and its DI the same blocks. Assumes nothing.
+-- AN ACCEPTED MESSAGE, WRITTEN AGAIN with its first SC and its DI, HAS THE SAME BLOCKS. Assumes nothing.
 use Prim.Native.Nat.{ℕ, zero, suc, _+_, _-_, _*_, _/_, _%_, _^_, _≤_, _<_}
 use mathlib.Core.Path.{_≡_, refl, sym, ap, ap₂, _∙_, subst}
 use mathlib.Core.Bool.{Bool, true, false, not}
-use mathlib.Core.List.{List, [], _∷_, _++_}
+use mathlib.Core.List.{List, [], _∷_, _++_, append-assoc, append-nil}
+use native.Mathlib.Nat.{zero-add}
 use native.Mathlib.Omega.{arith}
-use borrow.Author.Tests.{eqb-true, lt-leb}
-use lib.Dec.{eqb, leb}
-use lib.ListN.{length, getD, take, drop, replicate, length-drop, take-append-drop}
-use lib.Seq.{take-add, length-take-le, getD-take}
+use borrow.Author.Tests.{eqb-true, ltb-true, le-leb}
+use lib.Dec.{eqb, leb, ltb, eqb·suc-zero}
+use lib.ListN.{length, getD, take, drop, replicate, length-append, length-take, length-drop, take-append-drop}
+use lib.Seq.{paste, take-all, take-at, drop-at, length-take-le, take-append-le, drop-append-le}
 use Rattle.header.specs.Check.{bit}
-use Rattle.header.specs.Fields.{total, fields, header, bytesOf, numberOf}
-use Rattle.header.proofs.Fields.{Fit, packed-lt, fields-fit, header-again, number-bytes, total-bytes}
-use Rattle.channel.specs.Answers.{Outcome, message, refused}
+use Rattle.header.specs.Fields.{Bytes, field, total, fields, header, holds, bytesOf}
+use Rattle.header.proofs.Fields.{packed-lt, fields-fit, header-again, number-bytes}
+use Rattle.channel.specs.Answers.{Outcome, taken, message, refused, Left, leaves}
 use Rattle.channel.specs.Rules.{unless}
-use Rattle.channel.specs.Layer4.{only, layer4, sizeOf, field, opened, extOf, openedAt, blocksFor, zeros, rightForm, tested, messageOf}
-use Rattle.channel.specs.Writer.{valuesOf, headerBytes, blocksOf, messageBytes}
+use Rattle.channel.specs.Layer3.{layer3, headerOf, lfOf, scOf, blockOf}
+use Rattle.channel.specs.Layer4.{sizeOf, rightForm, blocksFor, zeros, openedAt, tested, messageOf}
+use Rattle.channel.specs.State.{keepsRule, asWaiting, channelOf, joined, followed, advanced, stepOf}
+use Rattle.channel.specs.Writer.{headerFor, blocksOf, cut, messageBytes, messageBlocks, within}
+use Rattle.channel.specs.Reading.{answersOf, channelAfter, Listens, Sent, dataOf, fieldsOf, WrittenAgain}
 use Rattle.channel.specs.declared.Header.{Header}
-use Rattle.channel.specs.declared.layer4.Opened.{Opened}
-use Rattle.channel.proofs.Laws.{both-true, size-room}
-use Rattle.channel.proofs.HeaderBack.{Right, ext-place}
+use Rattle.channel.specs.declared.Channel.{Channel}
+use Rattle.channel.specs.declared.Phase.the-variants.{Gathering}
+use Rattle.channel.proofs.Laws.{rule-bytes, rule-sc}
+use Rattle.channel.proofs.HeaderBack.{Right}
+use Rattle.channel.proofs.ReadBack.{Listening, listens, ready-none, next-rule, joined-front, joined-length}
+use Rattle.channel.proofs.MessageAgain.{bytes-take, bit-of, message-again}
 
--- ---- what an accepted row has passed
+-- ---- one block that was taken
 
-passed : (b : Bool) (n : ℕ) (r : Outcome) (h : Header) → unless b (refused n) r ≡ message h → (b ≡ true) × (r ≡ message h)
-passed true n r h e = (refl, e)
-passed false n r h e = let z : _≡_ {A = ℕ} 0 1 = cc in absurd (omega arith)
+-- "taken" and "message" are no refusals
+abbrev Went : Outcome → Type 0
+Went taken = Unit
+Went (message h) = Unit
+Went (refused n) = ⊥
 
-record Passed (o : Opened) (bytes : List ℕ) (h : Header) : Type 0 where
-  caf : not (o .caf) ≡ true
-  checked : o .checked ≡ true
-  rfa : o .rfa ≡ 0
-  form : rightForm (o .header .ext) (o .header .number) ≡ true
-  count : blocksFor (o .header .size + o .header .length) * 20 ≡ length bytes
-  padding : zeros (drop (o .header .size + o .header .length) bytes) ≡ true
-  is : o .header ≡ h
+went-on : (b : Bool) (n : ℕ) (c : Channel) (l : Left) → Went (unless b (leaves (refused n) c) l .answer) → (b ≡ true) × (unless b (leaves (refused n) c) l ≡ l)
+went-on true n c l w = (refl, refl)
+went-on false n c l w = absurd w
 
-all-passed : (o : Opened) (bytes : List ℕ) (h : Header) → tested o bytes ≡ message h → Passed o bytes h
-unfolding tested
-all-passed o bytes h e =
-    let end = o .header .size + o .header .length in
-    let a = passed (not (o .caf)) 6 _ h e in
-    let b = passed (o .checked) 4 _ h (a .1) in
-    let c = passed (eqb (o .rfa) 0) 6 _ h (b .1) in
-    let d = passed (rightForm (o .header .ext) (o .header .number)) 6 _ h (c .1) in
-    let f = passed (leb end 260) 14 _ h (d .1) in
-    let g = passed (eqb (blocksFor end * 20) (length bytes)) 7 _ h (f .1) in
-    let j = passed (zeros (drop end bytes)) 7 _ h (g .1) in
-    let m : message (o .header) ≡ message h = j .1 in
+-- what is known of a block that went on
+record Took (c : Channel) (b : List ℕ) : Type 0 where
+  long : length b ≡ 22
+  channel : field layer3 0 (headerOf b) ≡ 10
+  check : holds 10 (headerOf b) ≡ true
+  sc : scOf (headerOf b) ≡ c .expected
+  room : c .gathered < 260
+  step : stepOf c b ≡ joined (paste (c .bytes) (c .gathered) (drop 2 b) 20) (c .gathered + 20) (lfOf (headerOf b)) ((c .expected + 1) % 16)
+
+took : (c : Channel) (b : List ℕ) → Listening (c .phase) → Went (stepOf c b .answer) → Took c b
+unfolding stepOf advanced followed
+took c b p w =
+    let h = headerOf b in
+    let a1 = went-on (keepsRule c) 11 c _ w in
+    let a2 = went-on (eqb (length b) 22) 1 c _ (subst (λ (l : Left). Went (l .answer)) (a1 .1) w) in
+    let a3 = went-on (eqb (field layer3 0 h) 10) 5 c _ (subst (λ (l : Left). Went (l .answer)) (a1 .1 ∙ a2 .1) w) in
+    let a4 = went-on (holds 10 h) 4 c _ (subst (λ (l : Left). Went (l .answer)) (a1 .1 ∙ a2 .1 ∙ a3 .1) w) in
+    let a5 = a1 .1 ∙ a2 .1 ∙ a3 .1 ∙ a4 .1 ∙ listens (c .phase) c (lfOf h) (scOf h) (drop 2 b) p in
+    let a6 = went-on (eqb (scOf h) (c .expected)) 8 (asWaiting c (lfOf h) (scOf h)) _ (subst (λ (l : Left). Went (l .answer)) a5 w) in
+    let a7 = went-on (ltb (c .gathered) 260) 9 (asWaiting c (lfOf h) (scOf h)) _ (subst (λ (l : Left). Went (l .answer)) (a5 ∙ a6 .1) w) in
+    let sc = eqb-true (scOf h) (c .expected) (a6 .0) in
     record {
-      caf = a .0;
-      checked = b .0;
-      rfa = eqb-true (o .rfa) 0 (c .0);
-      form = d .0;
-      count = eqb-true (blocksFor end * 20) (length bytes) (g .0);
-      padding = j .0;
-      is = cc;
+      long = eqb-true (length b) 22 (a2 .0);
+      channel = eqb-true (field layer3 0 h) 10 (a3 .0);
+      check = a4 .0;
+      sc = sc;
+      room = ltb-true (c .gathered) 260 (a7 .0);
+      step = a5 ∙ a6 .1 ∙ a7 .1 ∙ ap (λ (n : ℕ). joined (paste (c .bytes) (c .gathered) (drop 2 b) 20) (c .gathered + 20) (lfOf h) ((n + 1) % 16)) sc;
     }
 
--- ---- the header
+-- such a block, written again with its DI
+block-again : (c : Channel) (b : List ℕ) (di : Bool) → Bytes b → Took c b → field layer3 1 (headerOf b) ≡ bit di → blockOf di (lfOf (headerOf b)) (c .expected) (drop 2 b) ≡ b
+unfolding blockOf
+block-again c b di fit t d =
+    let h = headerOf b in
+    let front = take 2 b in
+    let n : length front ≡ 2 = length-take-le 2 b (omega (arith, t .long)) in
+    let f = bytes-take 2 b fit in
+    let small : h < 65536 = subst (λ (k : ℕ). h < 2 ^ total (replicate k 8)) n (packed-lt (replicate (length front) 8) front f) in
+    let last = bit-of (field layer3 2 h) (fields-fit layer3 (h / 64) .1 .1 .0) in
+    let sc = sym (t .sc) in
+    let channel = sym (t .channel) in
+    let first = sym d in
+    let values : (10 ∷ bit di ∷ bit (lfOf h) ∷ c .expected ∷ []) ≡ fields layer3 (h / 64) = λ i. channel i ∷ first i ∷ last i ∷ sc i ∷ [] in
+    let whole : header layer3 (10 ∷ bit di ∷ bit (lfOf h) ∷ c .expected ∷ []) ≡ h = ap (header layer3) values ∙ header-again layer3 h (t .check) (omega arith) in
+    let bytes : bytesOf 2 h ≡ front = ap (λ (k : ℕ). bytesOf k h) (sym n) ∙ number-bytes front f in
+    ap (λ (r : List ℕ). r ++ drop 2 b) (ap (bytesOf 2) whole ∙ bytes) ∙ take-append-drop 2 b
 
-pub bit-of : (x : ℕ) → x < 2 → bit (eqb x 1) ≡ x
-bit-of zero h = refl
-bit-of (suc zero) h = refl
-bit-of (suc (suc n)) h = absurd (omega arith)
+-- ---- a run of blocks
 
-none-of : (x : ℕ) → x < 2 → not (eqb x 1) ≡ true → x ≡ 0
-none-of zero h e = refl
-none-of (suc zero) h e = let z : _≡_ {A = ℕ} 0 1 = cc in absurd (omega arith)
-none-of (suc (suc n)) h e = absurd (omega arith)
+not-taken : (b : Bool) (n : ℕ) (r : Outcome) → (r ≡ taken → ⊥) → unless b (refused n) r ≡ taken → ⊥
+not-taken true n r h e = h e
+not-taken false n r h e = let z : _≡_ {A = ℕ} 0 1 = cc in omega arith
 
--- the form of an accepted number
-form-again : (ext : Bool) (upper add : ℕ) → upper < 2 ^ only ext 5 → add < 512 → rightForm ext (512 * upper + add) ≡ true
-    → (512 * upper + add < 16384) × (ext ≡ leb 512 (512 * upper + add))
-form-again true upper add u a f = (omega (arith, u), sym f)
-form-again false upper add u a f = (omega (arith, u), sym (lt-leb 512 (512 * upper + add) (omega (arith, u))))
+-- reading a message gives it or a refusal
+read-not-taken : (bytes : List ℕ) → messageOf bytes ≡ taken → ⊥
+unfolding messageOf tested
+read-not-taken bytes =
+    let o = openedAt bytes in
+    let end = o .header .size + o .header .length in
+    not-taken (not (o .caf)) 6 _
+    (not-taken (o .checked) 4 _
+    (not-taken (eqb (o .rfa) 0) 6 _
+    (not-taken (rightForm (o .header .ext) (o .header .number)) 6 _
+    (not-taken (leb end 260) 14 _
+    (not-taken (eqb (blocksFor end * 20) (length bytes)) 7 _
+    (not-taken (zeros (drop end bytes)) 7 _ (λ e. let z : _≡_ {A = ℕ} 0 1 = cc in omega arith)))))))
 
-small-again : (ext : Bool) (h : ℕ) → h < 2 ^ (8 * sizeOf ext) → h / 64 < 2 ^ total (layer4 ext)
-small-again true h l = omega (arith, l)
-small-again false h l = omega (arith, l)
+taken-lf : (lf : Bool) (bytes : List ℕ) (n next : ℕ) → joined bytes n lf next .answer ≡ taken → lf ≡ false
+unfolding joined
+taken-lf true bytes n next e = absurd (read-not-taken (take n bytes) e)
+taken-lf false bytes n next e = refl
 
--- bytes are below 256
-abbrev pub Bytes : List ℕ → Type 0
-Bytes bytes = Fit (replicate (length bytes) 8) bytes
+message-lf : (lf : Bool) (bytes : List ℕ) (n next : ℕ) (m : Header) → joined bytes n lf next .answer ≡ message m → (lf ≡ true) × (messageOf (take n bytes) ≡ message m)
+unfolding joined
+message-lf true bytes n next m e = (refl, e)
+message-lf false bytes n next m e = let z : _≡_ {A = ℕ} 0 1 = cc in absurd (omega arith)
 
--- a header of an accepted message
-module _ (ext : Bool) (h : ℕ) (bytes : List ℕ) (small : h < 2 ^ (8 * sizeOf ext)) (is-ext : bit ext ≡ field (layer4 ext) 4 h)
-    (m : Header) (p : Passed (opened ext h) bytes m) where
-  read : Header
-  read = opened ext h .header
+-- the twenties of blocks, one after the other
+abbrev twenties : List (List ℕ) → List ℕ
+twenties [] = []
+twenties (b ∷ blocks) = drop 2 b ++ twenties blocks
 
-  read-fit : Fit (layer4 ext) (fields (layer4 ext) (h / 64))
-  read-fit = fields-fit (layer4 ext) (h / 64)
+record RunAgain (k : ℕ) (c : Channel) (di : Bool) (blocks : List (List ℕ)) (m : Header) : Type 0 where
+  same : cut (suc k) di (c .expected) (twenties blocks) ≡ blocks
+  whole : messageOf (take (c .gathered) (c .bytes) ++ twenties blocks) ≡ message m
+  long : length (twenties blocks) ≡ 20 * suc k
+  front : take (c .gathered + length (twenties blocks)) (channelAfter c blocks .bytes) ≡ take (c .gathered) (c .bytes) ++ twenties blocks
 
-  form : (read .number < 16384) × (ext ≡ leb 512 (read .number))
-  unfolding read opened
-  form = form-again ext (field (layer4 ext) 6 h) (field (layer4 ext) 5 h) (read-fit .1 .1 .1 .1 .1 .1 .0) (read-fit .1 .1 .1 .1 .1 .0) (p .form)
+-- the last block
+last-again : (c : Channel) (di : Bool) (b : List ℕ) (m : Header) → Listening (c .phase) → keepsRule c ≡ true → length (c .bytes) ≡ 260
+    → Bytes b → field layer3 1 (headerOf b) ≡ bit di → stepOf c b .answer ≡ message m → RunAgain 0 c di (b ∷ []) m
+unfolding joined
+last-again c di b m p rule full fit d e =
+    let t = took c b p (subst Went (sym e) tt) in
+    let r = rule-bytes c rule in
+    let n : length (drop 2 b) ≡ 20 = length-drop 2 b ∙ omega (arith, t .long) in
+    let room : c .gathered + 20 ≤ 260 = omega (arith, t .room, r .1) in
+    let row = paste (c .bytes) (c .gathered) (drop 2 b) 20 in
+    let l = message-lf (lfOf (headerOf b)) row (c .gathered + 20) ((c .expected + 1) % 16) m (sym (ap (λ (x : Left). x .answer) (t .step)) ∙ e) in
+    let none : drop 2 b ++ [] ≡ drop 2 b = append-nil (drop 2 b) in
+    let front = joined-front c (drop 2 b) n room full in
+    let after : channelAfter c (b ∷ []) .bytes ≡ row =
+    ap (λ (x : Left). x .channel .bytes) (t .step ∙ ap (λ (q : Bool). joined row (c .gathered + 20) q ((c .expected + 1) % 16)) (l .0)) in
+    record {
+      same = ap (λ (x : List ℕ). x ∷ [])
+          (ap (λ (x : List ℕ). blockOf di true (c .expected) x) (ap (take 20) none ∙ take-all 20 (drop 2 b) (omega arith))
+          ∙ ap (λ (q : Bool). blockOf di q (c .expected) (drop 2 b)) (sym (l .0))
+          ∙ block-again c b di fit t d);
+      whole = ap (λ (x : List ℕ). messageOf (take (c .gathered) (c .bytes) ++ x)) none ∙ ap messageOf (sym front) ∙ l .1;
+      long = ap length none ∙ n;
+      front = (λ i. take (c .gathered + (ap length none ∙ n) i) (after i)) ∙ front ∙ ap (λ (x : List ℕ). take (c .gathered) (c .bytes) ++ x) (sym none);
+    }
 
-  read-right : Right read
-  unfolding read opened
-  read-right =
-      record { ri = read-fit .0; ci = read-fit .1 .0; number = form .0; few = omega (arith, read-fit .1 .1 .1 .1 .1 .1 .1 .1 .1 .1 .0); ext = form .1; size = refl }
+-- a block before it
+more-again : (j : ℕ) (c : Channel) (di : Bool) (b : List ℕ) (blocks : List (List ℕ)) (m : Header) → Listening (c .phase) → keepsRule c ≡ true → length (c .bytes) ≡ 260
+    → Bytes b → field layer3 1 (headerOf b) ≡ bit di → stepOf c b .answer ≡ taken
+    → ((next : Channel) → next ≡ stepOf c b .channel → Listening (next .phase) → keepsRule next ≡ true → length (next .bytes) ≡ 260 → RunAgain j next di blocks m)
+    → RunAgain (suc j) c di (b ∷ blocks) m
+unfolding joined
+more-again j c di b blocks m p rule full fit d e rest =
+    let t = took c b p (subst Went (sym e) tt) in
+    let r = rule-bytes c rule in
+    let tw = drop 2 b in
+    let n : length tw ≡ 20 = length-drop 2 b ∙ omega (arith, t .long) in
+    let room : c .gathered + 20 ≤ 260 = omega (arith, t .room, r .1) in
+    let row = paste (c .bytes) (c .gathered) tw 20 in
+    let lf = taken-lf (lfOf (headerOf b)) row (c .gathered + 20) ((c .expected + 1) % 16) (sym (ap (λ (x : Left). x .answer) (t .step)) ∙ e) in
+    let next = channelOf row (c .gathered + 20) Gathering ((c .expected + 1) % 16) in
+    let step : stepOf c b ≡ leaves taken next = t .step ∙ ap (λ (q : Bool). joined row (c .gathered + 20) q ((c .expected + 1) % 16)) lf in
+    let again = rest next (sym (ap (λ (x : Left). x .channel) step)) tt (next-rule row (c .gathered) (c .expected) room (r .1)) (joined-length c tw n room full) in
+    let ends = twenties blocks in
+    let front = joined-front c tw n room full in
+    let both : take (c .gathered + 20) row ++ ends ≡ take (c .gathered) (c .bytes) ++ (tw ++ ends) = ap (λ (x : List ℕ). x ++ ends) front ∙ append-assoc (take (c .gathered) (c .bytes)) tw ends in
+    let len : length (tw ++ ends) ≡ 20 + length ends = length-append tw ends ∙ ap (λ (k : ℕ). k + length ends) n in
+    let sum : c .gathered + length (tw ++ ends) ≡ c .gathered + 20 + length ends = omega (arith, len) in
+    let here : blockOf di (eqb (suc j) 0) (c .expected) (take 20 (tw ++ ends)) ≡ b =
+    (λ i. blockOf di (eqb·suc-zero j i) (c .expected) (take-at tw ends 20 n i)) ∙ ap (λ (q : Bool). blockOf di q (c .expected) tw) (sym lf) ∙ block-again c b di fit t d in
+    record {
+      same = ap₂ (λ (x : List ℕ) (y : List (List ℕ)). x ∷ y) here (ap (cut (suc j) di ((c .expected + 1) % 16)) (drop-at tw ends 20 n) ∙ again .same);
+      whole = ap messageOf (sym both) ∙ again .whole;
+      long = len ∙ omega (arith, again .long);
+      front = ap₂ (λ (k : ℕ) (x : Left). take k (channelAfter (x .channel) blocks .bytes)) sum step ∙ again .front ∙ both;
+    }
 
-  values-again : valuesOf read ≡ fields (layer4 ext) (h / 64)
-  unfolding read opened
-  values-again =
-      let f = read-fit in
-      let upper = field (layer4 ext) 6 h in
-      let add = field (layer4 ext) 5 h in
-      let a : add < 512 = f .1 .1 .1 .1 .1 .0 in
-      let first = bit-of (field (layer4 ext) 2 h) (f .1 .1 .0) in
-      let last = bit-of (field (layer4 ext) 3 h) (f .1 .1 .1 .0) in
-      let low : (512 * upper + add) % 512 ≡ add = omega arith in
-      let high : (512 * upper + add) / 512 ≡ upper = omega arith in
-      let rfa = sym (p .rfa) in
-      let command = bit-of (field (layer4 ext) 8 h) (f .1 .1 .1 .1 .1 .1 .1 .1 .0) in
-      let caf = sym (none-of (field (layer4 ext) 9 h) (f .1 .1 .1 .1 .1 .1 .1 .1 .1 .0) (p .caf)) in
-      λ i. field (layer4 ext) 0 h ∷ field (layer4 ext) 1 h ∷ first i ∷ last i ∷ is-ext i ∷ low i ∷ high i ∷ rfa i ∷ command i ∷ caf i ∷ field (layer4 ext) 10 h ∷ []
+run-again : (k : ℕ) (c : Channel) (di : Bool) (blocks : List (List ℕ)) (m : Header) → Listening (c .phase) → keepsRule c ≡ true → length (c .bytes) ≡ 260
+    → Sent di blocks → answersOf c blocks ≡ replicate k taken ++ (message m ∷ []) → RunAgain k c di blocks m
+run-again zero c di [] m p rule full s e = let z : _≡_ {A = ℕ} 0 1 = ap length e in absurd (omega arith)
+run-again zero c di (b ∷ []) m p rule full s e =
+    last-again c di b m p rule full (s .0 .0) (s .0 .1) (ap (λ (l : List Outcome). getD l 0 taken) e)
+run-again zero c di (b ∷ d ∷ blocks) m p rule full s e = let z = ap length e in absurd (omega arith)
+run-again (suc j) c di [] m p rule full s e = let z = ap length e in absurd (omega arith)
+run-again (suc j) c di (b ∷ blocks) m p rule full s e =
+    more-again j c di b blocks m p rule full (s .0 .0) (s .0 .1) (ap (λ (l : List Outcome). getD l 0 taken) e)
+    (λ next is q r f. run-again j next di blocks m q r f (s .1) (ap (λ (d : Channel). answersOf d blocks) is ∙ ap (drop 1) e))
 
-  whole-again : header (layer4 ext) (valuesOf read) ≡ h
-  unfolding read opened
-  whole-again = ap (header (layer4 ext)) values-again ∙ header-again (layer4 ext) h (p .checked) (small-again ext h small)
+-- ---- a message
 
--- ---- header, data and padding
+bytes-append : (xs ys : List ℕ) → Bytes xs → Bytes ys → Bytes (xs ++ ys)
+bytes-append [] ys f g = g
+bytes-append (x ∷ xs) ys f g = (f .0, bytes-append xs ys (f .1) g)
 
-pub bytes-take : (n : ℕ) (bytes : List ℕ) → Bytes bytes → Bytes (take n bytes)
-bytes-take zero bytes f = tt
-bytes-take (suc n) [] f = tt
-bytes-take (suc n) (b ∷ bytes) f = (f .0, bytes-take n bytes (f .1))
+bytes-drop : (n : ℕ) (xs : List ℕ) → Bytes xs → Bytes (drop n xs)
+bytes-drop zero xs f = f
+bytes-drop (suc n) [] f = tt
+bytes-drop (suc n) (x ∷ xs) f = bytes-drop n xs (f .1)
 
-zeros-all : (s : List ℕ) → zeros s ≡ true → s ≡ replicate (length s) 0
-zeros-all [] e = refl
-zeros-all (b ∷ s) e =
-    let t = both-true (eqb b 0) (zeros s) e in
-    λ i. eqb-true b 0 (t .0) i ∷ zeros-all s (t .1) i
+twenties-bytes : (di : Bool) (blocks : List (List ℕ)) → Sent di blocks → Bytes (twenties blocks)
+twenties-bytes di [] s = tt
+twenties-bytes di (b ∷ blocks) s = bytes-append (drop 2 b) (twenties blocks) (bytes-drop 2 b (s .0 .0)) (twenties-bytes di blocks (s .1))
 
--- the data of a message, from its bytes
-abbrev pub dataOf : Header → List ℕ → List ℕ
-dataOf m bytes = take (m .length) (drop (m .size) bytes)
+-- a part of the front of a list
+part-of-front : (a b n : ℕ) (s : List ℕ) → a + b ≤ n → n ≤ length s → take b (drop a s) ≡ take b (drop a (take n s))
+part-of-front a b n s h l =
+    let front = take n s in
+    let long : length front ≡ n = length-take-le n s l in
+    ap (λ (x : List ℕ). take b (drop a x)) (sym (take-append-drop n s))
+    ∙ ap (take b) (drop-append-le a front (drop n s) (omega arith))
+    ∙ take-append-le b (drop a front) (drop n s) (omega (arith, length-drop a front))
 
-pub record Again (bytes : List ℕ) (m : Header) : Type 0 where
-  pub right : Right m
-  pub row : messageBytes m (dataOf m bytes) ≡ bytes
-  pub blocks : blocksOf m * 20 ≡ length bytes
+header-of : (m : Header) (d : ℕ) → Right m → d ≡ m .length → headerFor (fieldsOf m) d ≡ m
+header-of m d r e =
+    let ext = sym (r .ext) in
+    let size = ap sizeOf ext ∙ sym (r .size) in
+    λ i. record { ri = m .ri; ci = m .ci; first = m .first; last = m .last; ext = ext i; number = m .number; command = m .command; length = e i; size = size i }
 
-row-again : (m : Header) (s : List ℕ) → m .size ≡ sizeOf (m .ext) → headerBytes m ≡ take (m .size) s → blocksFor (m .size + m .length) * 20 ≡ length s
-    → zeros (drop (m .size + m .length) s) ≡ true → messageBytes m (dataOf m s) ≡ s
-unfolding messageBytes
-row-again m s size h count z =
-    let n = m .size + m .length in
-    let front : headerBytes m ++ dataOf m s ≡ take n s = ap (λ (x : List ℕ). x ++ dataOf m s) h ∙ sym (take-add (m .size) (m .length) s) in
-    let left : length (drop n s) ≡ blocksFor n * 20 - n = length-drop n s ∙ ap (λ (k : ℕ). k - n) (sym count) in
-    let back : drop n s ≡ replicate (blocksFor n * 20 - n) 0 = zeros-all (drop n s) z ∙ ap (λ (k : ℕ). replicate k 0) left in
-    ap (λ (k : ℕ). headerBytes m ++ dataOf m s ++ replicate (blocksFor (k + m .length) * 20 - (k + m .length)) 0) (sym size)
-    ∙ ap₂ (λ (x y : List ℕ). x ++ y) front (sym back)
-    ∙ take-append-drop n s
+fields-within : (m : Header) (sc d : ℕ) → Right m → sc < 16 → d ≡ m .length → within (fieldsOf m) sc d ≡ true
+unfolding within
+fields-within m sc d r h e =
+    let a : m .ri ≤ 3 = omega (arith, r .ri) in
+    let b : m .ci ≤ 3 = omega (arith, r .ci) in
+    let n : m .number ≤ 16383 = omega (arith, r .number) in
+    let s : sc ≤ 15 = omega arith in
+    let l : d ≤ 255 = omega (arith, r .few) in
+    simp (le-leb _ _ a, le-leb _ _ b, le-leb _ _ n, le-leb _ _ s, le-leb _ _ l)
 
-module _ (bytes : List ℕ) (fit : Bytes bytes) (long : 5 ≤ length bytes) where
-  size : ℕ
-  size = sizeOf (extOf bytes)
-
-  whole : ℕ
-  whole = numberOf (take size bytes)
-
-  taken-length : length (take size bytes) ≡ size
-  unfolding size
-  taken-length = length-take-le (sizeOf (extOf bytes)) bytes (omega (arith, size-room (extOf bytes)))
-
-  whole-small : whole < 2 ^ (8 * size)
-  unfolding size whole
-  whole-small =
-      let front = take size bytes in
-      subst (λ (k : ℕ). whole < 2 ^ k) (total-bytes (length front) ∙ ap (λ (k : ℕ). 8 * k) taken-length)
-      (packed-lt (replicate (length front) 8) front (bytes-take size bytes fit))
-
-  whole-bytes : bytesOf size whole ≡ take size bytes
-  unfolding size whole
-  whole-bytes = ap (λ (k : ℕ). bytesOf k whole) (sym taken-length) ∙ number-bytes (take size bytes) (bytes-take size bytes fit)
-
-  ext-again : bit (extOf bytes) ≡ field (layer4 (extOf bytes)) 4 whole
-  unfolding size whole
-  ext-again =
-      let b = getD bytes 0 0 in
-      bit-of (b / 2 % 2) (omega arith)
-      ∙ ap (λ (n : ℕ). n / 2 % 2) (sym (getD-take size bytes 0 0 (omega (arith, size-room (extOf bytes)))) ∙ ap (λ (s : List ℕ). getD s 0 0) (sym whole-bytes))
-      ∙ ext-place (extOf bytes) whole
-
-  -- the bytes of an accepted message are what the writer's definitions write for it
-  pub message-again : (m : Header) → messageOf bytes ≡ message m → Again bytes m
-  unfolding messageOf openedAt size whole headerBytes read opened
-  message-again m e =
-      let ext = extOf bytes in
-      let p = all-passed (opened ext whole) bytes m e in
-      let h = opened ext whole .header in
-      let front : headerBytes h ≡ take (h .size) bytes = ap (bytesOf size) (whole-again ext whole bytes whole-small ext-again m p) ∙ whole-bytes in
-      subst (Again bytes) (p .is)
-      (record {
-        right = read-right ext whole bytes whole-small ext-again m p;
-        row = row-again h bytes refl front (p .count) (p .padding);
-        blocks = p .count;
-      })
+pub written-again : (c : Channel) (di : Bool) (blocks : List (List ℕ)) (k : ℕ) (m : Header) → Listens c → Sent di blocks
+    → answersOf c blocks ≡ replicate k taken ++ (message m ∷ []) → WrittenAgain c di blocks m
+unfolding messageBlocks
+written-again c di blocks k m l s e =
+    let p : Listening (c .phase) = rw (l .ready) tt in
+    let run = run-again k c di blocks m p (l .rule) (l .full) s e in
+    let none = ready-none c l in
+    let tw = twenties blocks in
+    let row : messageOf tw ≡ message m = ap (λ (g : ℕ). messageOf (take g (c .bytes) ++ tw)) (sym none) ∙ run .whole in
+    let long = run .long in
+    let again = message-again tw (twenties-bytes di blocks s) (omega arith) m row in
+    let r = again .right in
+    let bytes = channelAfter c blocks .bytes in
+    let front : take (length tw) bytes ≡ tw =
+    ap (λ (n : ℕ). take n bytes) (sym (zero-add (length tw))) ∙ subst (λ (g : ℕ). take (g + length tw) bytes ≡ take g (c .bytes) ++ tw) none (run .front) in
+    let count : blocksOf m ≡ suc k = omega (arith, again .blocks) in
+    let size : m .size + m .length ≤ length tw = omega (arith, r .size, again .blocks) in
+    let inside : length tw ≤ length bytes = omega (arith, length-take (length tw) bytes, ap length front) in
+    let part : dataOf m bytes ≡ dataOf m tw = part-of-front (m .size) (m .length) (length tw) bytes size inside ∙ ap (dataOf m) front in
+    let d : length (dataOf m bytes) ≡ m .length =
+    ap length part ∙ length-take-le (m .length) (drop (m .size) tw) (omega (arith, length-drop (m .size) tw)) in
+    let h = header-of m _ r d in
+    record {
+      accepted = fields-within m (c .expected) _ r (rule-sc c (l .rule)) d;
+      header = h;
+      same = (λ i. cut (blocksOf (h i)) di (c .expected) (messageBytes (h i) (part i)))
+          ∙ ap₂ (λ (n : ℕ) (x : List ℕ). cut n di (c .expected) x) count (again .row)
+          ∙ run .same;
+    }

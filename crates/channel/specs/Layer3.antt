@@ -1,28 +1,25 @@
 -- Document 01, "Layer 3 header, 16 bits": SI/LCh 4 bits, equal to A hex; DI 1; LF 1; SC 4; check 6.
 -- The twenty data bytes start at the third byte of the information. Assumes nothing.
-use Prim.Native.Nat.{ℕ, _/_}
+use Prim.Native.Nat.{ℕ}
 use mathlib.Core.Bool.{Bool}
 use mathlib.Core.List.{List, [], _∷_, _++_}
 use lib.Dec.{eqb}
-use lib.ListN.{getD, take}
+use lib.ListN.{take}
 use Rattle.header.specs.Check.{bit}
-use Rattle.header.specs.Fields.{fields, header, bytesOf, numberOf}
+use Rattle.header.specs.Fields.{field, header, bytesOf, numberOf}
 
 abbrev pub layer3 : List ℕ
 layer3 = 4 ∷ 1 ∷ 1 ∷ 4 ∷ []
 
--- the header of an information block, and a field of it: 0 is SI/LCh, 1 DI, 2 LF, 3 SC
+-- the header of an information block; its fields are 0 SI/LCh, 1 DI, 2 LF, 3 SC
 abbrev pub headerOf : List ℕ → ℕ
 headerOf information = numberOf (take 2 information)
 
-abbrev pub field3 : ℕ → ℕ → ℕ
-field3 i h = getD (fields layer3 (h / 64)) i 0
-
 abbrev pub lfOf : ℕ → Bool
-lfOf h = eqb (field3 2 h) 1
+lfOf h = eqb (field layer3 2 h) 1
 
 abbrev pub scOf : ℕ → ℕ
-scOf h = field3 3 h
+scOf h = field layer3 3 h
 
 -- a block as it is written
 unfoldable pub blockOf : Bool → Bool → ℕ → List ℕ → List ℕ

@@ -4,7 +4,7 @@ use mathlib.Core.Bool.{Bool, true, not, cond}
 use mathlib.Core.List.{List, [], _∷_}
 use lib.Dec.{eqb, leb}
 use lib.ListN.{length, getD, take, drop}
-use Rattle.header.specs.Fields.{total, fields, holds, numberOf}
+use Rattle.header.specs.Fields.{total, field, holds, numberOf}
 use Rattle.channel.specs.Rules.{unless, both}
 use Rattle.channel.specs.Answers.{Outcome, message, refused}
 use Rattle.channel.specs.declared.layer4.Opened.{Opened}
@@ -20,10 +20,6 @@ layer4 ext = 2 ∷ 2 ∷ 1 ∷ 1 ∷ 1 ∷ 9 ∷ only ext 5 ∷ only ext 3 ∷ 1
 -- the header's bytes
 abbrev pub sizeOf : Bool → ℕ
 sizeOf ext = cond ext 5 4
-
--- the field at a place of that list
-abbrev pub field : List ℕ → ℕ → ℕ → ℕ
-field widths i h = getD (fields widths (h / 64)) i 0
 
 abbrev pub flag : List ℕ → ℕ → ℕ → Bool
 flag widths i h = eqb (field widths i h) 1

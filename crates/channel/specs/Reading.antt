@@ -1,10 +1,23 @@
--- A run of information blocks through a channel: every answer, and the channel at the end. Assumes nothing.
-use Prim.Native.Nat.{ℕ}
-use mathlib.Core.List.{List, [], _∷_}
-use Rattle.channel.specs.Answers.{Outcome}
-use Rattle.channel.specs.State.{stepOf}
+-- Document 01, "Reading back is claimed from a ready channel that expects the starting SC. Written again, an accepted message has the same
+-- header, data and padding, and the same blocks where its first SC is given and all its DIs were the one given." What these claims say.
+-- Assumes nothing.
+use Prim.Native.Nat.{ℕ, _+_, _-_, _%_}
+use mathlib.Core.Path.{_≡_}
+use mathlib.Core.Bool.{Bool, true}
+use mathlib.Core.List.{List, [], _∷_, _++_}
+use lib.ListN.{length, take, drop, replicate}
+use Rattle.header.specs.Check.{bit}
+use Rattle.header.specs.Fields.{field, Bytes}
+use Rattle.channel.specs.Answers.{Outcome, taken, message}
+use Rattle.channel.specs.Layer3.{layer3, headerOf}
+use Rattle.channel.specs.State.{keepsRule, stepOf}
+use Rattle.channel.specs.Writer.{headerFor, blocksOf, messageBlocks, within}
+use Rattle.channel.specs.declared.Header.{Header}
+use Rattle.channel.specs.declared.Phase.the-variants.{Ready}
+use Rattle.channel.specs.declared.writer.Fields.{Fields}
 use Rattle.channel.specs.declared.Channel.{Channel}
 
+-- a run of information blocks through a channel: every answer, and the channel at the end
 abbrev pub answersOf : Channel → List (List ℕ) → List Outcome
 answersOf c [] = []
 answersOf c (b ∷ blocks) = stepOf c b .answer ∷ answersOf (stepOf c b .channel) blocks
@@ -12,3 +25,36 @@ answersOf c (b ∷ blocks) = stepOf c b .answer ∷ answersOf (stepOf c b .chann
 abbrev pub channelAfter : Channel → List (List ℕ) → Channel
 channelAfter c [] = c
 channelAfter c (b ∷ blocks) = channelAfter (stepOf c b .channel) blocks
+
+-- a channel that can take a message: ready, its rule kept, and its 260 bytes there
+pub record Listens (c : Channel) : Type 0 where
+  pub ready : c .phase ≡ Ready
+  pub rule : keepsRule c ≡ true
+  pub full : length (c .bytes) ≡ 260
+
+-- the data of a message stands behind its header
+abbrev pub dataOf : Header → List ℕ → List ℕ
+dataOf m bytes = take (m .length) (drop (m .size) bytes)
+
+-- a message's blocks, from a channel that listens and expects their first SC: "taken" .. "message" with every header field, and the
+-- channel listens again, expects the SC after the last block's, and holds the data from byte h on
+pub record ReadBack (m : Fields) (di : Bool) (s : List ℕ) (c : Channel) : Type 0 where
+  pub answers : answersOf c (messageBlocks m di (c .expected) s) ≡ replicate (blocksOf (headerFor m (length s)) - 1) taken ++ (message (headerFor m (length s)) ∷ [])
+  pub listens : Listens (channelAfter c (messageBlocks m di (c .expected) s))
+  pub expected : channelAfter c (messageBlocks m di (c .expected) s) .expected ≡ (c .expected + blocksOf (headerFor m (length s))) % 16
+  pub stands : dataOf (headerFor m (length s)) (channelAfter c (messageBlocks m di (c .expected) s) .bytes) ≡ s
+
+-- blocks of bytes, all with one DI
+abbrev pub Sent : Bool → List (List ℕ) → Type 0
+Sent di [] = Unit
+Sent di (b ∷ blocks) = (Bytes b × (field layer3 1 (headerOf b) ≡ bit di)) × Sent di blocks
+
+-- the fields of a header that the writer takes
+abbrev pub fieldsOf : Header → Fields
+fieldsOf m = record { ri = m .ri; ci = m .ci; first = m .first; last = m .last; number = m .number; command = m .command }
+
+-- the blocks of an accepted message, all with this DI: the writer takes its fields and its data, and writes these blocks for them
+pub record WrittenAgain (c : Channel) (di : Bool) (blocks : List (List ℕ)) (m : Header) : Type 0 where
+  pub accepted : within (fieldsOf m) (c .expected) (length (dataOf m (channelAfter c blocks .bytes))) ≡ true
+  pub header : headerFor (fieldsOf m) (length (dataOf m (channelAfter c blocks .bytes))) ≡ m
+  pub same : messageBlocks (fieldsOf m) di (c .expected) (dataOf m (channelAfter c blocks .bytes)) ≡ blocks

@@ -5,10 +5,10 @@ use mathlib.Core.List.{List}
 use lib.Dec.{eqb, leb, ltb}
 use lib.ListN.{length, take, drop, replicate}
 use lib.Seq.{paste}
-use Rattle.header.specs.Fields.{holds}
+use Rattle.header.specs.Fields.{field, holds}
 use Rattle.channel.specs.Rules.{unless, both}
 use Rattle.channel.specs.Answers.{taken, refused, Left, leaves}
-use Rattle.channel.specs.Layer3.{headerOf, field3, lfOf, scOf}
+use Rattle.channel.specs.Layer3.{layer3, headerOf, lfOf, scOf}
 use Rattle.channel.specs.Layer4.{messageOf}
 use Rattle.channel.specs.declared.Channel.{Channel}
 use Rattle.channel.specs.declared.Phase.{Phase}
@@ -63,6 +63,6 @@ unfoldable pub stepOf : Channel → List ℕ → Left
 stepOf c information =
     unless (keepsRule c) (leaves (refused 11) c)
     (unless (eqb (length information) 22) (leaves (refused 1) c)
-    (unless (eqb (field3 0 (headerOf information)) 10) (leaves (refused 5) c)
+    (unless (eqb (field layer3 0 (headerOf information)) 10) (leaves (refused 5) c)
     (unless (holds 10 (headerOf information)) (leaves (refused 4) c)
     (advanced c (lfOf (headerOf information)) (scOf (headerOf information)) (drop 2 information)))))

@@ -2,9 +2,12 @@
 ghost use mathlib.Core.Path.{_≡_};
 ghost use Prim.Native.Nat.{_*_, _≤_, _<_, _^_};
 ghost use lib.ListN.{length};
+ghost use Rattle.header.specs.Fields.{field};
 ghost use Rattle.channel.specs.Answers.{outcome};
-ghost use Rattle.channel.specs.Layer4.{sizeOf, layer4, field, opened, openedAt, rightForm, tested, messageOf, zeros};
+ghost use Rattle.channel.specs.Layer4.{sizeOf, layer4, opened, openedAt, rightForm, tested, messageOf, zeros};
+use crate::DATA_BYTES;
 use crate::Header;
+use crate::MESSAGE_BYTES;
 use crate::Step;
 use crate::row;
 use answers::Refusal;
@@ -82,10 +85,10 @@ fn test(opened: Opened, bytes: &[u8]) -> Step
         return Step::Refused(Refusal::HeaderForm);
     }
     let end = header.size + header.length;
-    if 260 < end {
+    if MESSAGE_BYTES < end {
         return Step::Refused(Refusal::TooLong);
     }
-    if (end + 19) / 20 * 20 != bytes.len() {
+    if (end + 19) / DATA_BYTES * DATA_BYTES != bytes.len() {
         return Step::Refused(Refusal::CountOrPadding);
     }
     if !all_zero(&bytes[end..]) {

@@ -11,6 +11,13 @@ pub mod writer;
 
 use answers::Refusal;
 
+// The bytes of an information block and of the data in it, and the most that a message can have.
+pub const INFORMATION_BYTES: usize = 22;
+
+pub const DATA_BYTES: usize = 20;
+
+pub const MESSAGE_BYTES: usize = 260;
+
 pub enum Phase {
     Waiting,
     Ready,
@@ -19,7 +26,7 @@ pub enum Phase {
 
 // A channel: the bytes gathered so far stand in front, and `expected` is the SC of the next block.
 pub struct Channel {
-    pub bytes: [u8; 260],
+    pub bytes: [u8; MESSAGE_BYTES],
     pub gathered: usize,
     pub phase: Phase,
     pub expected: u8,
@@ -56,7 +63,7 @@ impl Channel {
         ensures { λ r. ⌜ r ≡ fresh ⌝ }
     {
         Channel {
-            bytes: [0u8; 260],
+            bytes: [0u8; MESSAGE_BYTES],
             gathered: 0,
             phase: Phase::Waiting,
             expected: 0,
@@ -72,7 +79,7 @@ impl Channel {
         if !state::keeps_rule(self) {
             return state::refused(Refusal::OutsideRule, self);
         }
-        if information.len() != 22 {
+        if information.len() != INFORMATION_BYTES {
             return state::refused(Refusal::WrongLength, self);
         }
         let h = row::number(&information[..2]);

@@ -1,13 +1,15 @@
 // The channel's state: its rule, and what a block with a right header does to it.
 ghost use mathlib.Core.Bool.{true};
 ghost use mathlib.Core.Path.{_≡_};
-ghost use Prim.Native.Nat.{_*_, _+_, _<_, _≤_, _%_};
+ghost use Prim.Native.Nat.{_+_, _<_, _≤_, _%_};
 ghost use lib.ListN.{length};
 ghost use lib.Seq.{paste};
 ghost use Rattle.answers.specs.Numbers.{numberOf};
 ghost use Rattle.channel.specs.Answers.{paper, leaves, refused};
 ghost use Rattle.channel.specs.State.{keepsRule, asWaiting, joined, followed, advanced};
 use crate::Channel;
+use crate::DATA_BYTES;
+use crate::MESSAGE_BYTES;
 use crate::Phase;
 use crate::Step;
 use crate::Stepped;
@@ -15,12 +17,12 @@ use crate::layer4;
 use crate::row;
 use answers::Refusal;
 
-pub fn refused(refusal: Refusal, channel: Channel) -> Stepped
-    ensures { λ r. ⌜ paper r ≡ leaves (refused (numberOf refusal)) channel ⌝ }
+pub fn refused(refusal: Refusal, left: Channel) -> Stepped
+    ensures { λ r. ⌜ paper r ≡ leaves (refused (numberOf refusal)) left ⌝ }
 {
     Stepped {
         answer: Step::Refused(refusal),
-        channel,
+        channel: left,
     }
 }
 
@@ -38,13 +40,13 @@ pub fn keeps_rule(channel: Channel) -> bool
         Phase::Waiting => if n == 0 { sc == 0 } else { false },
         Phase::Ready => n == 0,
         Phase::Gathering => {
-            if n < 20 {
+            if n < DATA_BYTES {
                 return false;
             }
-            if 260 < n {
+            if MESSAGE_BYTES < n {
                 return false;
             }
-            n % 20 == 0
+            n % DATA_BYTES == 0
         }
     }
 }
@@ -71,11 +73,11 @@ fn follow(channel: Channel, lf: bool, sc: u8, twenty: &[u8]) -> Stepped
         return refused(Refusal::OutOfStep, as_waiting(channel, lf, sc));
     }
     let at = channel.gathered;
-    if 260 <= at {
+    if MESSAGE_BYTES <= at {
         return refused(Refusal::TooMany, as_waiting(channel, lf, sc));
     }
     let bytes = channel.bytes;
-    gather(join(bytes, at, twenty), at + 20, lf, (sc + 1) % 16)
+    gather(join(bytes, at, twenty), at + DATA_BYTES, lf, (sc + 1) % 16)
 }
 
 // As waiting: LF makes the channel ready for the next block. No byte changes.
@@ -102,7 +104,7 @@ fn as_waiting(channel: Channel, lf: bool, sc: u8) -> Channel
 }
 
 // Joins twenty bytes on.
-fn join(bytes: [u8; 260], at: usize, twenty: &[u8]) -> [u8; 260]
+fn join(bytes: [u8; MESSAGE_BYTES], at: usize, twenty: &[u8]) -> [u8; MESSAGE_BYTES]
     requires { ⌜ (at ≤ 240) × (length (now twenty) ≡ 20) ⌝ }
     ensures { λ r. ⌜ r ≡ paste bytes at (now (twenty .entry)) 20 ⌝ }
 {
@@ -112,7 +114,7 @@ fn join(bytes: [u8; 260], at: usize, twenty: &[u8]) -> [u8; 260]
 }
 
 // What n gathered bytes lead to: with LF they are read as a message, and the channel is ready for the next.
-fn gather(bytes: [u8; 260], n: usize, lf: bool, next: u8) -> Stepped
+fn gather(bytes: [u8; MESSAGE_BYTES], n: usize, lf: bool, next: u8) -> Stepped
     requires { ⌜ (20 ≤ n) × (n ≤ 260) ⌝ }
     ensures { λ r. ⌜ paper r ≡ joined bytes n lf next ⌝ }
 {

@@ -1,17 +1,19 @@
 // The message writer.
-ghost use mathlib.Core.Bool.{true};
 ghost use mathlib.Core.List.{_++_};
 ghost use mathlib.Core.Path.{_≡_};
 ghost use Prim.Native.Nat.{_*_, _+_, _-_, _<_, _≤_, _^_};
-ghost use lib.ListN.{length, drop, replicate};
+ghost use lib.ListN.{length, drop};
 ghost use lib.Dec.{leb};
 ghost use lib.Seq.{paste};
 ghost use Rattle.header.specs.Check.{bit};
 ghost use Rattle.header.specs.Fields.{packed, header};
 ghost use Rattle.channel.specs.Layer3.{blockOf};
 ghost use Rattle.channel.specs.Layer4.{sizeOf, layer4};
-ghost use Rattle.channel.specs.Writer.{headerFor, valuesOf, headerBytes, blocksOf, cut, within, writeOf, Writes, flat};
+ghost use Rattle.channel.specs.Writer.{headerFor, valuesOf, headerBytes, cut, within, writeOf, Writes, flat};
+use crate::DATA_BYTES;
 use crate::Header;
+use crate::INFORMATION_BYTES;
+use crate::MESSAGE_BYTES;
 use crate::row;
 use answers::Answer;
 use answers::Refusal;
@@ -42,12 +44,12 @@ pub fn write_message(fields: Fields, di: bool, sc: u8, data: &[u8], output: &mut
         return none(Refusal::OutsideRule);
     }
     let header = header_for(fields, data.len());
-    let blocks = (header.size + header.length + 19) / 20;
-    if output.len() < 22 * blocks {
+    let blocks = (header.size + header.length + 19) / DATA_BYTES;
+    if output.len() < INFORMATION_BYTES * blocks {
         return none(Refusal::TooShort);
     }
-    let bytes = lay(header, data, [0u8; 260]);
-    let end = 20 * blocks;
+    let bytes = lay(header, data, [0u8; MESSAGE_BYTES]);
+    let end = DATA_BYTES * blocks;
     put_blocks(&bytes[..end], blocks, di, sc, output);
     Wrote {
         answer: Answer::Accepted,
@@ -128,7 +130,7 @@ fn pack(header: Header) -> u64
 }
 
 // Lays header and data over the front of zeros.
-fn lay(header: Header, data: &[u8], zeros: [u8; 260]) -> [u8; 260]
+fn lay(header: Header, data: &[u8], zeros: [u8; MESSAGE_BYTES]) -> [u8; MESSAGE_BYTES]
     requires { ⌜ (header .ri < 4) × (header .ci < 4) × (header .number < 16384) × (header .length ≡ length (now «data»)) × (length (now «data») ≤ 255) × (header .ext ≡ leb 512 (header .number)) × (header .size ≡ sizeOf (header .ext)) × (header .size ≤ 5) ⌝ }
     ensures { λ r. ⌜ r ≡ headerBytes header ++ now («data» .entry) ++ drop (sizeOf (header .ext) + header .length) zeros ⌝ }
 {
@@ -151,10 +153,10 @@ fn put_blocks(bytes: &[u8], blocks: usize, di: bool, sc: u8, output: &mut [u8])
     let mut next = sc;
     while 0 < left {
         left -= 1;
-        let end = from + 20;
+        let end = from + DATA_BYTES;
         put_block(&bytes[from..end], di, left == 0, next, output, to);
         from = end;
-        to += 22;
+        to += INFORMATION_BYTES;
         next = (next + 1) % 16;
     }
 }

@@ -9,15 +9,8 @@ use borrow.Author.Tests.{eq-eqb, eqb-true}
 use lib.ListN.{length, replicate}
 use lib.Pow.{pow-pos, pow-add}
 use Rattle.header.specs.Check.{check}
-use Rattle.header.specs.Fields.{total, behind, packed, fields, withCheck, header, holds, bytesOf, numberOf}
+use Rattle.header.specs.Fields.{Fit, total, behind, packed, fields, withCheck, header, holds, bytesOf, numberOf}
 use Rattle.header.proofs.Bits.{check-fits}
-
--- values that fit their widths
-abbrev pub Fit : List ℕ → List ℕ → Type 0
-Fit [] [] = Unit
-Fit [] (v ∷ vs) = ⊥
-Fit (w ∷ ws) [] = ⊥
-Fit (w ∷ ws) (v ∷ vs) = (v < 2 ^ w) × Fit ws vs
 
 -- what stands before the fields is above them
 before-fields : (before : ℕ) (ws vs : List ℕ) → Fit ws vs → behind before ws vs / 2 ^ total ws ≡ before

@@ -1,10 +1,10 @@
 -- Document 01, "The long message channel": header fields stand in the order written, most significant bit first, then the check.
 -- Assumes nothing.
-use Prim.Native.Nat.{ℕ, _+_, _*_, _/_, _%_, _^_}
+use Prim.Native.Nat.{ℕ, _+_, _*_, _/_, _%_, _^_, _<_}
 use mathlib.Core.Bool.{Bool}
 use mathlib.Core.List.{List, [], _∷_}
 use lib.Dec.{eqb}
-use lib.ListN.{length, replicate}
+use lib.ListN.{length, getD, replicate}
 use Rattle.header.specs.Check.{check}
 
 -- the bits that fields of these widths have
@@ -27,6 +27,13 @@ abbrev pub fields : List ℕ → ℕ → List ℕ
 fields [] x = []
 fields (w ∷ ws) x = x / 2 ^ total ws % 2 ^ w ∷ fields ws x
 
+-- values that fit their widths
+abbrev pub Fit : List ℕ → List ℕ → Type 0
+Fit [] [] = Unit
+Fit [] (v ∷ vs) = ⊥
+Fit (w ∷ ws) [] = ⊥
+Fit (w ∷ ws) (v ∷ vs) = (v < 2 ^ w) × Fit ws vs
+
 -- a header: its fields, then the check over them
 abbrev pub withCheck : ℕ → ℕ → ℕ
 withCheck n x = x * 64 + check n x
@@ -34,13 +41,21 @@ withCheck n x = x * 64 + check n x
 abbrev pub header : List ℕ → List ℕ → ℕ
 header ws vs = withCheck (total ws) (packed ws vs)
 
+-- a header's field, by its place among the widths
+abbrev pub field : List ℕ → ℕ → ℕ → ℕ
+field widths i h = getD (fields widths (h / 64)) i 0
+
 -- the check of a header that has n bits before it is right
 abbrev pub holds : ℕ → ℕ → Bool
 holds n h = eqb (check n (h / 64)) (h % 64)
 
--- the n bytes of a header, and the header that bytes are
+-- the n bytes of a header, and the header that bytes are; a byte is a field of eight bits
 abbrev pub bytesOf : ℕ → ℕ → List ℕ
 bytesOf n h = fields (replicate n 8) h
 
 abbrev pub numberOf : List ℕ → ℕ
 numberOf bytes = packed (replicate (length bytes) 8) bytes
+
+-- bytes are below 256
+abbrev pub Bytes : List ℕ → Type 0
+Bytes bytes = Fit (replicate (length bytes) 8) bytes

@@ -1,3 +1,4 @@
+-- `channel::layer4::header_at` reads EXT, and then the header of 5 or 4 bytes. Assumes nothing.
 use Prim.Native.Nat.{_*_, _^_, _<_, _/_}
 use mathlib.Core.Bool.{true, false}
 use mathlib.Core.Path.{_≡_, refl, sym, ap, _∙_}
@@ -10,8 +11,6 @@ use Rattle.channel.specs.Layer4.{opened, openedAt}
 use borrow.Author.Needs.{needs}
 use Rattle.channel.proofs.layer4.header_at.Statement.{statement}
 use Rattle.channel.proofs.layer4.header_at.Tie as tie
-
--- `channel::layer4::header_at` reads EXT, and then the header of 5 or 4 bytes. Assumes nothing.
 
 shared-slice-read-if1 : tie.Need-shared-slice-read-if1
 shared-slice-read-if1 c = search needs

@@ -1,9 +1,8 @@
+-- `channel::state::join` copies twenty bytes to the place. Assumes nothing.
 use mathlib.Core.Path.{_∙_}
 use borrow.Author.Needs.{needs}
 use Rattle.channel.proofs.state.join.Statement.{statement}
 use Rattle.channel.proofs.state.join.Tie as tie
-
--- `channel::state::join` copies twenty bytes to the place. Assumes nothing.
 
 slice-aggregate-put : tie.Need-slice-aggregate-put
 slice-aggregate-put c = search needs

@@ -1,3 +1,4 @@
+-- `channel::writer::pack`: each form is a sum of its fields. Assumes nothing.
 use mathlib.Core.Path.{_≡_, sym, _∙_}
 use Prim.Native.Nat.{_<_, _%_, _/_}
 use borrow.Author.Tests.{leb-false}
@@ -5,8 +6,6 @@ use native.Mathlib.Omega.{arith}
 use borrow.Author.Needs.{needs}
 use Rattle.channel.proofs.writer.pack.Statement.{statement}
 use Rattle.channel.proofs.writer.pack.Tie as tie
-
--- `channel::writer::pack`: each form is a sum of its fields. Assumes nothing.
 
 cast-number : tie.Need-cast-number
 cast-number c = search needs

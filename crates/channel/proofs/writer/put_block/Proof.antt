@@ -1,3 +1,4 @@
+-- `channel::writer::put_block`: the header goes in first, then the twenty bytes. Assumes nothing.
 use mathlib.Core.Path.{refl, ap, _∙_}
 use mathlib.Core.List.{[], _∷_, _++_}
 use Prim.Native.Nat.{ℕ}
@@ -10,8 +11,6 @@ use Rattle.channel.specs.Layer3.{blockOf}
 use borrow.Author.Needs.{needs}
 use Rattle.channel.proofs.writer.put_block.Statement.{statement}
 use Rattle.channel.proofs.writer.put_block.Tie as tie
-
--- `channel::writer::put_block`: the header goes in first, then the twenty bytes. Assumes nothing.
 
 one-requires : tie.Need-one-requires
 one-requires c κs = search needs

@@ -1,3 +1,4 @@
+-- `channel::writer::write_message`: the two refusals, and the blocks. Assumes nothing.
 use lib.Dec.{leb}
 use lib.ListN.{replicate, length, take, drop}
 use Rattle.channel.specs.Writer.{messageBytes, headerFor, headerBytes, blocksOf, messageBlocks, cut, flat, within, writeOf}
@@ -16,8 +17,6 @@ use Rattle.channel.proofs.Writing.{message-taken, length-cut, none-writ
 use borrow.Author.Needs.{needs}
 use Rattle.channel.proofs.writer.write_message.Statement.{statement}
 use Rattle.channel.proofs.writer.write_message.Tie as tie
-
--- `channel::writer::write_message`: the two refusals, and the blocks. Assumes nothing.
 
 -- each field is within its width, and the header is that of the message
 allowed : (c : tie.Else1) → let a = c .before .before .before .before .args in within (a .fields) (a .sc) (length (a .«data» .now)) ≡ true
