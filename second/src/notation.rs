@@ -7,8 +7,8 @@ use crate::survey::{Counts, Summary};
 
 /// More bytes than this make no case.
 pub const LONGEST_CASE: usize = 262_143;
-/// The most bytes of an argument of the block commands.
-pub const LONGEST_BLOCK_ARGUMENT: usize = 8192;
+/// The most bytes of an argument that is no log.
+pub const LONGEST_ARGUMENT: usize = 32_768;
 
 const BYTE: u64 = 1 << 8;
 const SHORT: u64 = 1 << 16;
@@ -37,7 +37,7 @@ impl<'a> Arguments<'a> {
         self.fields.as_slice().is_empty().then_some(())
     }
 
-    pub fn bytes(&mut self) -> Option<Vec<u8>> {
+    pub fn log(&mut self) -> Option<Vec<u8>> {
         let field = self.fields.next()?;
         if *field == b"." {
             return Some(Vec::new());
@@ -51,9 +51,9 @@ impl<'a> Arguments<'a> {
             .collect()
     }
 
-    pub fn block_bytes(&mut self) -> Option<Vec<u8>> {
-        self.bytes()
-            .filter(|bytes| bytes.len() <= LONGEST_BLOCK_ARGUMENT)
+    pub fn bytes(&mut self) -> Option<Vec<u8>> {
+        self.log()
+            .filter(|bytes| bytes.len() <= LONGEST_ARGUMENT)
     }
 
     fn number(&mut self, bound: u64) -> Option<u64> {

@@ -49,16 +49,16 @@ fn answer_to_case(line: &[u8]) -> Option<Vec<u8>> {
 }
 
 fn correct(arguments: &mut Arguments) -> Option<Line> {
-    let received = arguments.block_bytes()?;
-    let mut output = arguments.block_bytes()?;
+    let received = arguments.bytes()?;
+    let mut output = arguments.bytes()?;
     arguments.end()?;
     let result = block::correct(&received, &mut output);
     Some(counted("word", result).bytes(&output))
 }
 
 fn read_block(arguments: &mut Arguments) -> Option<Line> {
-    let received = arguments.block_bytes()?;
-    let mut output = arguments.block_bytes()?;
+    let received = arguments.bytes()?;
+    let mut output = arguments.bytes()?;
     arguments.end()?;
     let result = block::read_block(&received, &mut output);
     Some(counted("information", result).bytes(&output))
@@ -72,8 +72,8 @@ fn counted(success: &str, result: Result<usize, block::Refusal>) -> Line {
 }
 
 fn write_block(arguments: &mut Arguments) -> Option<Line> {
-    let information = arguments.block_bytes()?;
-    let mut output = arguments.block_bytes()?;
+    let information = arguments.bytes()?;
+    let mut output = arguments.bytes()?;
     arguments.end()?;
     let result = block::write_block(&information, &mut output);
     Some(Line::answer("block", &result).bytes(&output))
@@ -186,7 +186,7 @@ fn channel(arguments: &mut Arguments) -> Option<Line> {
 }
 
 fn log(arguments: &mut Arguments) -> Option<Line> {
-    let bytes = arguments.bytes()?;
+    let bytes = arguments.log()?;
     arguments.end()?;
     let (counts, bad_line) = survey::read_log(&bytes);
     let line = bad_line.map_or(Line::new("log"), |_| Line::refused(BAD_LINE));

@@ -2,9 +2,6 @@
 use crate::cases;
 use block::Corrected;
 
-// The most bytes of an argument.
-const MOST: usize = 8192;
-
 pub fn has(command: &[u8]) -> bool {
     if text::same(command, b"correct") {
         return true;
@@ -19,13 +16,13 @@ pub fn answer(line: &[u8], answers: &mut [u8], at: usize) -> usize {
     if text::arguments(line) != 2 {
         return cases::bad(answers, at);
     }
-    let mut bytes = [0u8; 8192];
-    let given = cases::bytes_at(line, 1, MOST, &mut bytes);
+    let mut bytes = [0u8; 32768];
+    let given = cases::bytes_at(line, 1, cases::MOST, &mut bytes);
     if !given.readable {
         return cases::bad(answers, at);
     }
-    let mut room = [0u8; 8192];
-    let lent = cases::bytes_at(line, 2, MOST, &mut room);
+    let mut room = [0u8; 32768];
+    let lent = cases::bytes_at(line, 2, cases::MOST, &mut room);
     if !lent.readable {
         return cases::bad(answers, at);
     }

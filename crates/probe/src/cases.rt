@@ -7,6 +7,9 @@ use text::Bytes;
 use text::Flag;
 use text::Number;
 
+// The most bytes of an argument that is no log.
+pub const MOST: usize = 32768;
+
 // The line is no case.
 pub fn bad(room: &mut [u8], at: usize) -> usize {
     put::word(room, at, b"bad case\n")

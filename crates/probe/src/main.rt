@@ -2,6 +2,7 @@
 // line for each case. docs/PROBE.md has the notation. Each area has a module, with a function for each of its commands.
 mod blocks;
 mod cases;
+mod groups;
 mod messages;
 mod put;
 
@@ -31,6 +32,9 @@ fn answer(line: &[u8], answers: &mut [u8], at: usize) -> usize {
     }
     if messages::has(command) {
         return messages::answer(line, answers, at);
+    }
+    if groups::has(command) {
+        return groups::answer(line, answers, at);
     }
     cases::bad(answers, at)
 }

@@ -9,9 +9,7 @@ use channel::Phase;
 use channel::Step;
 use channel::Stepped;
 use channel::writer::Fields;
-
-// The most bytes of the data and of the output.
-const MOST: usize = 8192;
+use channel::writer::Wrote;
 
 pub fn has(command: &[u8]) -> bool {
     if text::same(command, b"new-channel") {
@@ -126,8 +124,8 @@ fn step(line: &[u8], answers: &mut [u8], at: usize) -> usize {
     if !state.readable {
         return cases::bad(answers, at);
     }
-    let mut information = [0u8; 8192];
-    let given = cases::bytes_at(line, 5, MOST, &mut information);
+    let mut information = [0u8; 32768];
+    let given = cases::bytes_at(line, 5, cases::MOST, &mut information);
     if !given.readable {
         return cases::bad(answers, at);
     }
@@ -191,7 +189,7 @@ pub fn are_fields(line: &[u8], first: usize) -> bool
     cases::is_flag(line, first + 5)
 }
 
-fn fields_at(line: &[u8], first: usize) -> Fields
+pub fn fields_at(line: &[u8], first: usize) -> Fields
     requires { ⌜ first < 100 ⌝ }
 {
     Fields {
@@ -214,13 +212,13 @@ fn write_message(line: &[u8], answers: &mut [u8], at: usize) -> usize {
     if !cases::is_number(line, 8, 255) {
         return cases::bad(answers, at);
     }
-    let mut bytes = [0u8; 8192];
-    let given = cases::bytes_at(line, 9, MOST, &mut bytes);
+    let mut bytes = [0u8; 32768];
+    let given = cases::bytes_at(line, 9, cases::MOST, &mut bytes);
     if !given.readable {
         return cases::bad(answers, at);
     }
-    let mut room = [0u8; 8192];
-    let lent = cases::bytes_at(line, 10, MOST, &mut room);
+    let mut room = [0u8; 32768];
+    let lent = cases::bytes_at(line, 10, cases::MOST, &mut room);
     if !lent.readable {
         return cases::bad(answers, at);
     }
@@ -240,6 +238,11 @@ fn put_written(
     let di = cases::flag_at(line, 7);
     let sc = cases::small_at(line, 8);
     let wrote = channel::writer::write_message(fields, di, sc, data, output);
+    put_wrote(answers, at, wrote, output)
+}
+
+// What a writer answers: the number of blocks, and the output.
+pub fn put_wrote(answers: &mut [u8], at: usize, wrote: Wrote, output: &[u8]) -> usize {
     let answer = wrote.answer;
     let answered = cases::put_answer(answers, at, answer, b"written");
     let counted = cases::put_number(answers, answered, wrote.blocks as u64);

@@ -1,7 +1,7 @@
 //! Lines that are no cases: a good case with something done to it that no reading forgives.
 
 use super::{Case, MAKERS};
-use crate::notation::{Line, LONGEST_BLOCK_ARGUMENT, LONGEST_CASE};
+use crate::notation::{Line, LONGEST_ARGUMENT, LONGEST_CASE};
 use crate::random::Random;
 
 /// None of these can be read as bytes, number, flag, name of a phase or binary64.
@@ -200,7 +200,7 @@ fn over_a_limit(random: &Random, round: usize) -> Case {
             .done(),
         _ => {
             let name = random.pick(&["correct", "read-block", "write-block"]);
-            let long = vec![0; LONGEST_BLOCK_ARGUMENT + 1];
+            let long = vec![0; LONGEST_ARGUMENT + 1];
             let (input, output) = random.pick(&[(&long[..], &[0; 34][..]), (&[0; 34], &long)]);
             Line::new(name).bytes(input).bytes(output).done()
         }

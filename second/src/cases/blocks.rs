@@ -4,7 +4,7 @@ use super::patterns::*;
 use super::Case;
 use crate::block::{self, BLOCK_BYTES, INFORMATION_BYTES};
 use crate::corrector::POSITIONS;
-use crate::notation::{Line, LONGEST_BLOCK_ARGUMENT};
+use crate::notation::{Line, LONGEST_ARGUMENT};
 use crate::random::Random;
 use crate::rows::{from_block, to_block, with_remainder, Row, CHECK, PARITY};
 
@@ -21,7 +21,7 @@ const LENGTHS: [usize; 13] = [
     44,
     68,
     4096,
-    LONGEST_BLOCK_ARGUMENT,
+    LONGEST_ARGUMENT,
 ];
 const MOST_WRONG: usize = 12;
 

@@ -1,0 +1,71 @@
+-- A STATE THAT KEEPS ITS RULE STILL KEEPS IT AFTER ANY MESSAGE, and a fresh one keeps it. Assumes nothing.
+use Prim.Native.Nat.{ℕ, _+_, _*_, _%_, _≤_, _<_}
+use mathlib.Core.Path.{_≡_}
+use mathlib.Core.Bool.{true, not}
+use mathlib.Core.List.{List}
+use native.Mathlib.Omega.{arith}
+use borrow.Author.Tests.{le-leb, leb-true, ltb-true}
+use lib.Dec.{eqb, leb, ltb}
+use lib.ListN.{length}
+use Rattle.channel.specs.declared.writer.Fields.{Fields}
+use Rattle.channel.proofs.Laws.{both-true}
+use Rattle.group.specs.Answers.{Left, Made}
+use Rattle.group.specs.State.{groupOf, idle, newOf, phaseHolds, keepsRule, within, joinedOn, followed, joinOf}
+use Rattle.group.specs.declared.Group.{Group}
+use Rattle.group.specs.declared.Phase.{Phase}
+use Rattle.group.specs.declared.Phase.the-variants.{Idle, Gathering}
+use Rattle.group.proofs.Laws.{unless-elim, cond-elim, rule-room, within-bounds}
+
+pub rule-number : (g : Group) → keepsRule g ≡ true → g .number ≤ 16383
+unfolding keepsRule
+rule-number g e = leb-true (g .number) 16383 (both-true (leb (g .number) 16383) (phaseHolds (g .phase) (g .held) (g .messages) (g .ci)) e .0)
+
+pub idle-rule : (number : ℕ) → number ≤ 16383 → keepsRule (idle number) ≡ true
+unfolding keepsRule
+idle-rule number h = rw (le-leb _ _ h)
+
+-- one message more
+pub gathering-rule : (number held messages d ci : ℕ) → number ≤ 16383 → held ≤ 255 * messages → messages < 15 → d ≤ 255 → ci ≤ 3
+    → keepsRule (groupOf number Gathering (held + d) (messages + 1) ci) ≡ true
+unfolding keepsRule
+gathering-rule number held messages d ci hn hh hm hd hc =
+    let a : 1 ≤ messages + 1 = omega arith in
+    let b : messages + 1 ≤ 15 = omega arith in
+    let e : held + d ≤ 255 * (messages + 1) = omega arith in
+    rw (le-leb _ _ hn, le-leb _ _ a, le-leb _ _ b, le-leb _ _ e, le-leb _ _ hc)
+
+abbrev Kept : Left → Type 0
+Kept l = keepsRule (l .group) ≡ true
+
+module _ (m : Fields) (s buffer : List ℕ) (fits : within m (length s) ≡ true) where
+  joined-kept : (g : Group) → g .number ≤ 16383 → g .held ≤ 255 * g .messages → g .messages < 15 → Kept (joinedOn g m s buffer)
+  unfolding joinedOn
+  joined-kept g hn hh hm =
+      let b = within-bounds m (length s) fits in
+      cond-elim Kept (m .last) _ _ (λ _. idle-rule (g .number) hn)
+      λ _. gathering-rule (g .number) (g .held) (g .messages) (length s) (m .ci) hn hh hm (b .0) (b .1)
+
+  followed-kept : (p : Phase) (g : Group) → keepsRule g ≡ true → Kept (followed p g m s buffer)
+  followed-kept Idle g rule = rule
+  followed-kept Gathering g rule =
+      let n = rule-number g rule in
+      unless-elim Kept (eqb (m .ci) ((g .ci + 1) % 4)) _ _ (idle-rule (g .number) n) λ _.
+      unless-elim Kept (ltb (g .messages) 15) _ _ (idle-rule (g .number) n) λ l.
+      joined-kept g n (rule-room g rule .0) (ltb-true (g .messages) 15 l)
+
+pub rule-kept : (g : Group) (m : Fields) (s buffer : List ℕ) → keepsRule g ≡ true → keepsRule (joinOf g m s buffer .group) ≡ true
+unfolding joinOf
+rule-kept g m s buffer rule =
+    unless-elim Kept (leb 3825 (length buffer)) _ _ rule λ _.
+    unless-elim Kept (keepsRule g) _ _ rule λ _.
+    unless-elim Kept (within m (length s)) _ _ rule λ fits.
+    unless-elim Kept (eqb (m .number) (g .number)) _ _ rule λ _.
+    unless-elim Kept (not (m .command)) _ _ rule λ _.
+    cond-elim Kept (m .first) _ _ (λ _. joined-kept m s buffer fits (idle (g .number)) (rule-number g rule) (omega arith) (omega arith)) λ _.
+    followed-kept m s buffer fits (g .phase) g rule
+
+pub new-rule : (number : ℕ) → keepsRule (newOf number .group) ≡ true
+unfolding newOf
+new-rule number =
+    unless-elim (λ (r : Made). keepsRule (r .group) ≡ true) (leb number 16383) _ _ (idle-rule 0 (omega arith)) λ e.
+    idle-rule number (leb-true number 16383 e)

@@ -1,0 +1,65 @@
+-- Document 01, "Group state": a fresh state, the rule of a state, and each message, rule by rule. Assumes nothing.
+use Prim.Native.Nat.{ℕ, _+_, _*_, _%_}
+use mathlib.Core.Bool.{Bool, not, cond}
+use mathlib.Core.List.{List}
+use lib.Dec.{eqb, leb, ltb}
+use lib.ListN.{length}
+use lib.Seq.{paste}
+use Rattle.answers.specs.Numbers.{accepted}
+use Rattle.answers.specs.Numbers as numbers
+use Rattle.channel.specs.Rules.{unless, both}
+use Rattle.channel.specs.declared.writer.Fields.{Fields}
+use Rattle.group.specs.Answers.{taken, whole, refused, Left, leaves, Made, made}
+use Rattle.group.specs.declared.Group.{Group}
+use Rattle.group.specs.declared.Phase.{Phase}
+use Rattle.group.specs.declared.Phase.the-variants.{Idle, Gathering}
+
+abbrev pub groupOf : ℕ → Phase → ℕ → ℕ → ℕ → Group
+groupOf number phase held messages ci = record { number = number; phase = phase; held = held; messages = messages; ci = ci }
+
+-- a group state begins idle, with no bytes counted
+abbrev pub idle : ℕ → Group
+idle number = groupOf number Idle 0 0 0
+
+-- asked for a number above 16,383 the answer is 11, with the fresh state of number 0
+unfoldable pub newOf : ℕ → Made
+newOf number = unless (leb number 16383) (made (numbers.refused 11) (idle 0)) (made accepted (idle number))
+
+-- idle holds 0 bytes, 0 messages and CI 0; gathering holds 1 to 15 messages, at most 255 bytes for each, and a CI
+abbrev pub phaseHolds : Phase → ℕ → ℕ → ℕ → Bool
+phaseHolds Idle held messages ci = both (eqb held 0) (both (eqb messages 0) (eqb ci 0))
+phaseHolds Gathering held messages ci = both (leb 1 messages) (both (leb messages 15) (both (leb held (255 * messages)) (leb ci 3)))
+
+unfoldable pub keepsRule : Group → Bool
+keepsRule g = both (leb (g .number) 16383) (phaseHolds (g .phase) (g .held) (g .messages) (g .ci))
+
+-- a message with d data bytes: its number at most 16,383, its data at most 255 bytes, each field within its width
+unfoldable pub within : Fields → ℕ → Bool
+within m d = both (leb (m .number) 16383) (both (leb d 255) (both (leb (m .ri) 3) (leb (m .ci) 3)))
+
+-- the data is written at the counted place; with Last the answer is "group" with its length and the state is idle; without, "taken", gathering
+unfoldable pub joinedOn : Group → Fields → List ℕ → List ℕ → Left
+joinedOn g m s buffer =
+    cond (m .last)
+    (leaves (whole (g .held + length s)) (idle (g .number)) (paste buffer (g .held) s (length s)))
+    (leaves taken (groupOf (g .number) Gathering (g .held + length s) (g .messages + 1) (m .ci)) (paste buffer (g .held) s (length s)))
+
+-- not First and idle: answer 8, still idle; CI not one more, modulo 4: idle, answer 8; fifteen messages already: idle, answer 9; otherwise joined on
+abbrev pub followed : Phase → Group → Fields → List ℕ → List ℕ → Left
+followed Idle g m s buffer = leaves (refused 8) g buffer
+followed Gathering g m s buffer =
+    unless (eqb (m .ci) ((g .ci + 1) % 4)) (leaves (refused 8) (idle (g .number)) buffer)
+    (unless (ltb (g .messages) 15) (leaves (refused 9) (idle (g .number)) buffer)
+    (joinedOn g m s buffer))
+
+-- buffer short (10); a state otherwise, number above 16,383, data over 255 bytes or a field over its width (11); another service number or COM set (13);
+-- these change nothing. First set: whatever was gathered is dropped and this data is the group so far
+unfoldable pub joinOf : Group → Fields → List ℕ → List ℕ → Left
+joinOf g m s buffer =
+    unless (leb 3825 (length buffer)) (leaves (refused 10) g buffer)
+    (unless (keepsRule g) (leaves (refused 11) g buffer)
+    (unless (within m (length s)) (leaves (refused 11) g buffer)
+    (unless (eqb (m .number) (g .number)) (leaves (refused 13) g buffer)
+    (unless (not (m .command)) (leaves (refused 13) g buffer)
+    (cond (m .first) (joinedOn (idle (g .number)) m s buffer)
+    (followed (g .phase) g m s buffer))))))

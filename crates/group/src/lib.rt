@@ -1,0 +1,104 @@
+// Groups of document 01: a group state joins the data of up to fifteen messages of one service number in a lent
+// buffer, and the group writer gives the blocks of a whole group.
+ghost use mathlib.Core.Path.{_≡_};
+ghost use Rattle.answers.specs.Numbers.{paper};
+ghost use Rattle.group.specs.Answers.{made, left};
+ghost use Rattle.group.specs.State.{newOf, joinOf};
+
+mod state;
+pub mod writer;
+
+use answers::Answer;
+use answers::Refusal;
+use channel::writer::Fields;
+
+// The greatest service number, and the most data of a message.
+pub(crate) const LAST_NUMBER: u16 = 16383;
+
+pub(crate) const MESSAGE_DATA: usize = 255;
+
+pub enum Phase {
+    Idle,
+    Gathering,
+}
+
+// A group of one service number: the bytes held and the messages joined so far, and the CI of the last of them.
+pub struct Group {
+    pub number: u16,
+    pub phase: Phase,
+    pub held: usize,
+    pub messages: u8,
+    pub ci: u8,
+}
+
+// The answer to being asked for a state, and the state.
+pub struct Made {
+    pub answer: Answer,
+    pub group: Group,
+}
+
+// `Whole` is the answer "group", with the group's length.
+pub enum Step {
+    Taken,
+    Whole(usize),
+    Refused(Refusal),
+}
+
+// The answer to a message, and the state that it leaves.
+pub struct Stepped {
+    pub answer: Step,
+    pub group: Group,
+}
+
+impl Group {
+    // The limits of a group: 15 messages, and 255 bytes for each.
+    pub const MOST_MESSAGES: u8 = 15;
+
+    pub const MOST_BYTES: usize = 3825;
+
+    // A fresh state for a service number. Refused, with the fresh state of number 0: a number above 16,383 (11).
+    pub fn new(number: u16) -> Made
+        ensures { λ r. ⌜ made (paper (r .answer)) (r .group) ≡ newOf number ⌝ }
+    {
+        if LAST_NUMBER < number {
+            Made {
+                answer: Answer::Refused(Refusal::OutsideRule),
+                group: state::idle(0),
+            }
+        } else {
+            Made {
+                answer: Answer::Accepted,
+                group: state::idle(number),
+            }
+        }
+    }
+
+    // Takes one message, its fields and its data. Refused, with the state as it stood: a buffer shorter than 3,825
+    // bytes (10); a state outside its rule, a field over its width or data over 255 bytes (11); another service number
+    // or COM (13). Then by First and CI: 8 or 9, with the state idle; or the data is joined on, "taken" or "group".
+    // A refusal changes no byte of the buffer, a joining those of its data.
+    pub fn join(self, message: Fields, data: &[u8], buffer: &mut [u8]) -> Stepped
+        ensures { λ r. ⌜ left r (now (buffer .exit)) ≡ joinOf self message (now («data» .entry)) (now (buffer .entry)) ⌝ }
+    {
+        if buffer.len() < Group::MOST_BYTES {
+            return state::refused(Refusal::TooShort, self);
+        }
+        if !state::keeps_rule(self) {
+            return state::refused(Refusal::OutsideRule, self);
+        }
+        if !state::within_widths(message, data.len()) {
+            return state::refused(Refusal::OutsideRule, self);
+        }
+        if message.number != self.number {
+            return state::refused(Refusal::NotThisGroup, self);
+        }
+        if message.command {
+            return state::refused(Refusal::NotThisGroup, self);
+        }
+        if message.first {
+            let number = self.number;
+            return state::join_on(state::idle(number), message, data, buffer);
+        }
+        state::follow(self, message, data, buffer)
+    }
+}

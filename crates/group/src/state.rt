@@ -1,0 +1,134 @@
+// The group's state: its rule, and what a message of its own service number does to it.
+ghost use mathlib.Core.Bool.{true};
+ghost use mathlib.Core.List.{List};
+ghost use mathlib.Core.Path.{_≡_};
+ghost use Prim.Native.Nat.{ℕ, _+_, _<_, _≤_};
+ghost use lib.ListN.{length};
+ghost use Rattle.answers.specs.Numbers.{numberOf};
+ghost use Rattle.group.specs.Answers.{refused, leaves, left};
+ghost use Rattle.group.specs.State.{idle, keepsRule, within, joinedOn, followed};
+use crate::Group;
+use crate::LAST_NUMBER;
+use crate::MESSAGE_DATA;
+use crate::Phase;
+use crate::Step;
+use crate::Stepped;
+use answers::Refusal;
+use channel::writer::Fields;
+
+pub(crate) fn idle(number: u16) -> Group
+    ensures { λ r. ⌜ r ≡ idle number ⌝ }
+{
+    Group {
+        number,
+        phase: Phase::Idle,
+        held: 0,
+        messages: 0,
+        ci: 0,
+    }
+}
+
+pub(crate) fn refused(refusal: Refusal, group: Group) -> Stepped
+    ensures { λ r. ⌜ ((buffer : List ℕ) → left r buffer ≡ leaves (refused (numberOf refusal)) group buffer) ⌝ }
+{
+    Stepped {
+        answer: Step::Refused(refusal),
+        group,
+    }
+}
+
+// Whether the numbers are as the phase has them.
+pub(crate) fn keeps_rule(group: Group) -> bool
+    ensures { λ r. ⌜ r ≡ keepsRule group ⌝ }
+{
+    let phase = group.phase;
+    let held = group.held;
+    let messages = group.messages;
+    if LAST_NUMBER < group.number {
+        return false;
+    }
+    match phase {
+        Phase::Idle => {
+            if held != 0 {
+                return false;
+            }
+            if messages != 0 {
+                return false;
+            }
+            group.ci == 0
+        }
+        Phase::Gathering => {
+            if messages < 1 {
+                return false;
+            }
+            if Group::MOST_MESSAGES < messages {
+                return false;
+            }
+            if MESSAGE_DATA * (messages as usize) < held {
+                return false;
+            }
+            group.ci <= 3
+        }
+    }
+}
+
+pub(crate) fn within_widths(message: Fields, length: usize) -> bool
+    ensures { λ r. ⌜ r ≡ within message length ⌝ }
+{
+    if LAST_NUMBER < message.number {
+        return false;
+    }
+    if MESSAGE_DATA < length {
+        return false;
+    }
+    if 3 < message.ri {
+        return false;
+    }
+    message.ci <= 3
+}
+
+// A message that is no First.
+pub(crate) fn follow(group: Group, message: Fields, data: &[u8], buffer: &mut [u8]) -> Stepped
+    requires { ⌜ (keepsRule group ≡ true) × (length (now «data») ≤ 255) × (3825 ≤ length (now buffer)) ⌝ }
+    ensures { λ r. ⌜ left r (now (buffer .exit)) ≡ followed (group .phase) group message (now («data» .entry)) (now (buffer .entry)) ⌝ }
+{
+    let phase = group.phase;
+    let number = group.number;
+    if let Phase::Idle = phase {
+        return refused(Refusal::OutOfStep, group);
+    }
+    if message.ci != (group.ci + 1) % 4 {
+        return refused(Refusal::OutOfStep, idle(number));
+    }
+    if Group::MOST_MESSAGES <= group.messages {
+        return refused(Refusal::TooMany, idle(number));
+    }
+    join_on(group, message, data, buffer)
+}
+
+// Writes the data at the counted place. With Last the group is whole.
+pub(crate) fn join_on(group: Group, message: Fields, data: &[u8], buffer: &mut [u8]) -> Stepped
+    requires { ⌜ (group .messages < 15) × (group .held + length (now «data») ≤ length (now buffer)) ⌝ }
+    ensures { λ r. ⌜ left r (now (buffer .exit)) ≡ joinedOn group message (now («data» .entry)) (now (buffer .entry)) ⌝ }
+{
+    let at = group.held;
+    let number = group.number;
+    let end = at + bytes::copy(data, &mut buffer[at..]);
+    if message.last {
+        return Stepped {
+            answer: Step::Whole(end),
+            group: idle(number),
+        };
+    }
+    let group = Group {
+        number,
+        phase: Phase::Gathering,
+        held: end,
+        messages: group.messages + 1,
+        ci: message.ci,
+    };
+    Stepped {
+        answer: Step::Taken,
+        group,
+    }
+}
