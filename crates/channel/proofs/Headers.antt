@@ -1,49 +1,65 @@
 -- Layer 4 headers in the code and in the definitions, with and without EXT. Assumes nothing.
 use Prim.Native.Nat.{ℕ, _+_, _-_, _*_, _/_, _%_, _^_, _≤_, _<_}
-use mathlib.Core.Path.{_≡_, refl}
+use mathlib.Core.Path.{_≡_, _∙_}
 use mathlib.Core.Bool.{Bool, true, false}
 use mathlib.Core.List.{List}
-use native.Mathlib.Nat.{div-one}
+use native.Mathlib.Nat.{div-one, mod-one}
 use native.Mathlib.Omega.{arith}
 use lib.Dec.{eqb}
 use Rattle.header.specs.Check.{check}
-use Rattle.header.specs.Fields.{field}
-use Rattle.channel.specs.Layer4.{sizeOf, layer4, opened, openedAt, extOf}
+use Rattle.header.specs.Fields.{total}
+use Rattle.channel.specs.Layer4.{only, sizeOf, layer4, opened, openedAt, extOf}
 use Rattle.channel.specs.declared.layer4.Opened.{Opened}
 use Rattle.channel.proofs.Laws.{check-at}
 
--- the fields as the code takes them from a header of `size` bytes
-abbrev pub taken : (ext : Bool) (h size upper rfa k : ℕ) → Opened
-taken ext h size upper rfa k =
+-- the bits of a header and of its fields
+pub fields-small : (ext : Bool) (h : ℕ) → h < 2 ^ (8 * sizeOf ext) → h / 64 < 2 ^ total (layer4 ext)
+fields-small true h l = omega (arith, l)
+fields-small false h l = omega (arith, l)
+
+pub check-over : (ext : Bool) (x : ℕ) → x < 2 ^ total (layer4 ext) → check 64 x ≡ check (total (layer4 ext)) x
+check-over ext x h = check-at (total (layer4 ext)) x (few ext) h
+  where
+    few : (ext : Bool) → total (layer4 ext) ≤ 64
+    few true = omega arith
+    few false = omega arith
+
+-- the fields x as the code takes them from a header of `size` bytes, with EXT ADD, RFA, their check k, and the check that stands behind them
+abbrev pub taken : (ext : Bool) (x size upper rfa k behind : ℕ) → Opened
+taken ext x size upper rfa k behind =
     record {
       header = record {
-        ri = h / 64 / 2 ^ (8 * size - 6 - 2) % 4;
-        ci = h / 64 / 2 ^ (8 * size - 6 - 4) % 4;
-        first = eqb (h / 64 / 2 ^ (8 * size - 6 - 5) % 2) 1;
-        last = eqb (h / 64 / 2 ^ (8 * size - 6 - 6) % 2) 1;
+        ri = x / 2 ^ (8 * size - 6 - 2) % 4;
+        ci = x / 2 ^ (8 * size - 6 - 4) % 4;
+        first = eqb (x / 2 ^ (8 * size - 6 - 5) % 2) 1;
+        last = eqb (x / 2 ^ (8 * size - 6 - 6) % 2) 1;
         ext = ext;
-        number = 512 * upper + h / 64 / 2 ^ (8 * size - 6 - 16) % 512;
-        command = eqb (h / 64 / 512 % 2) 1;
-        length = h / 64 % 256;
+        number = 512 * upper + x / 2 ^ (8 * size - 6 - 16) % 512;
+        command = eqb (x / 512 % 2) 1;
+        length = x % 256;
         size = size;
       };
       rfa = rfa;
-      caf = eqb (h / 64 / 256 % 2) 1;
-      checked = eqb k (h % 64);
+      caf = eqb (x / 256 % 2) 1;
+      checked = eqb k behind;
     }
 
-pub taken-opened : (ext : Bool) (h size upper rfa k : ℕ) → size ≡ sizeOf ext → h < 2 ^ (8 * size) → upper ≡ field (layer4 ext) 6 h → rfa ≡ field (layer4 ext) 7 h
-    → k ≡ check 64 (h / 64) → taken ext h size upper rfa k ≡ opened ext h
+places : (ext : Bool) (h : ℕ)
+    → taken ext (h / 64) (sizeOf ext) (only ext (h / 64 / 8192 % 32)) (only ext (h / 64 / 1024 % 8)) (check (total (layer4 ext)) (h / 64)) (h % 64) ≡ opened ext h
 unfolding opened
-taken-opened true h size upper rfa k s l u r e =
-    let small : h / 64 < 2 ^ 34 = omega (arith, rw s at l) in
-    rw (s, u, r, e, check-at 34 30 (h / 64) refl small, div-one)
-taken-opened false h size upper rfa k s l u r e =
-    let small : h / 64 < 2 ^ 26 = omega (arith, rw s at l) in
-    rw (s, u, r, e, check-at 26 38 (h / 64) refl small, div-one)
+places true h = rw div-one
+places false h = rw (div-one, mod-one)
+
+module _ (ext : Bool) (h size upper rfa k : ℕ) (s : size ≡ sizeOf ext) (l : h < 2 ^ (8 * size)) (u : upper ≡ only ext (h / 64 / 8192 % 32))
+    (r : rfa ≡ only ext (h / 64 / 1024 % 8)) (e : k ≡ check 64 (h / 64)) where
+  pub taken-opened : taken ext (h / 64) size upper rfa k (h % 64) ≡ opened ext h
+  taken-opened =
+      let small : h < 2 ^ (8 * sizeOf ext) = rw s at l in
+      let c = e ∙ check-over ext (h / 64) (fields-small ext h small) in
+      (λ i. taken ext (h / 64) (s i) (u i) (r i) (c i) (h % 64)) ∙ places ext h
 
 -- a header has at most five bytes, and its data 255
-pub opened-room : (ext : Bool) (h : ℕ) → (opened ext h .header .size ≤ 5) × (opened ext h .header .length ≤ 255)
+opened-room : (ext : Bool) (h : ℕ) → (opened ext h .header .size ≤ 5) × (opened ext h .header .length ≤ 255)
 unfolding opened
 opened-room true h = omega arith
 opened-room false h = omega arith

@@ -1,9 +1,9 @@
 -- Laws that several proofs of this crate cite. Assumes nothing.
 use Prim.Native.Nat.{ℕ, _+_, _-_, _%_, _^_, _≤_, _<_}
-use mathlib.Core.Path.{_≡_, refl, sym, ap, _∙_}
+use mathlib.Core.Path.{_≡_, refl, ap, _∙_}
 use mathlib.Core.Bool.{Bool, true, false}
 use native.Mathlib.Omega.{arith}
-use borrow.Author.Tests.{eqb-true, leb-true}
+use borrow.Author.Tests.{eqb-true, leb-true, le-leb}
 use lib.Dec.{eqb, leb}
 use Rattle.header.specs.Check.{check}
 use Rattle.header.proofs.Bits.{check-wider, check-fits}
@@ -41,8 +41,8 @@ module _ (c : Channel) (e : keepsRule c ≡ true) where
   rule-sc = let h = leb-true (c .expected) 15 (parts .0) in omega arith
 
 -- the check over all 64 bits is that over a header's own
-pub check-at : (n k x : ℕ) → n + k ≡ 64 → x < 2 ^ n → check 64 x ≡ check n x
-check-at n k x e h = ap (λ (m : ℕ). check m x) (sym e) ∙ check-wider n k x h
+pub check-at : (n x : ℕ) → n ≤ 64 → x < 2 ^ n → check 64 x ≡ check n x
+check-at n x h l = let e : 64 ≡ n + (64 - n) = omega arith in ap (λ (m : ℕ). check m x) e ∙ check-wider n (64 - n) x l
 
 pub check-small : (x k : ℕ) → k ≡ check 64 x → k < 64
 check-small x k e = rw e (check-fits 64 x)
@@ -61,6 +61,15 @@ within-widths m sc d e =
     let v = both-true n (both s l) (u .1) in
     let w = both-true s l (v .1) in
     omega (arith, leb-true (m .ri) 3 (t .0), leb-true (m .ci) 3 (u .0), leb-true (m .number) 16383 (v .0), leb-true sc 15 (w .0), leb-true d 255 (w .1))
+
+pub within-true : (m : Fields) (sc d : ℕ) → m .ri < 4 → m .ci < 4 → m .number < 16384 → sc < 16 → d ≤ 255 → within m sc d ≡ true
+unfolding within
+within-true m sc d r c n s l =
+    let a : m .ri ≤ 3 = omega arith in
+    let b : m .ci ≤ 3 = omega arith in
+    let e : m .number ≤ 16383 = omega arith in
+    let f : sc ≤ 15 = omega arith in
+    simp (le-leb _ _ a, le-leb _ _ b, le-leb _ _ e, le-leb _ _ f, le-leb _ _ l)
 
 pub size-room : (ext : Bool) → (sizeOf ext ≤ 5) × (4 ≤ sizeOf ext)
 size-room true = omega arith

@@ -9,7 +9,7 @@ use lib.Dec.{eqb, leb}
 use lib.ListN.{length, getD, take, drop, replicate, length-drop, take-append-drop}
 use lib.Seq.{take-add, length-take-le, getD-take}
 use Rattle.header.specs.Check.{bit}
-use Rattle.header.specs.Fields.{Bytes, Fit, field, total, fields, header, bytesOf, numberOf}
+use Rattle.header.specs.Fields.{Bytes, Fit, field, fields, header, bytesOf, numberOf}
 use Rattle.header.proofs.Fields.{packed-lt, fields-fit, header-again, number-bytes, total-bytes}
 use Rattle.channel.specs.Answers.{Outcome, message, refused}
 use Rattle.channel.specs.Rules.{unless}
@@ -19,6 +19,7 @@ use Rattle.channel.specs.Writer.{valuesOf, headerBytes, blocksOf, messag
 use Rattle.channel.specs.declared.Header.{Header}
 use Rattle.channel.specs.declared.layer4.Opened.{Opened}
 use Rattle.channel.proofs.Laws.{both-true, size-room}
+use Rattle.channel.proofs.Headers.{fields-small}
 use Rattle.channel.proofs.HeaderBack.{Right, ext-place}
 
 -- ---- what an accepted row has passed
@@ -76,10 +77,6 @@ form-again : (ext : Bool) (upper add : ℕ) → upper < 2 ^ only ext 5 → add <
 form-again true upper add u a f = (omega (arith, u), sym f)
 form-again false upper add u a f = (omega (arith, u), sym (lt-leb 512 (512 * upper + add) (omega (arith, u))))
 
-small-again : (ext : Bool) (h : ℕ) → h < 2 ^ (8 * sizeOf ext) → h / 64 < 2 ^ total (layer4 ext)
-small-again true h l = omega (arith, l)
-small-again false h l = omega (arith, l)
-
 -- a header of an accepted message
 module _ (ext : Bool) (h : ℕ) (bytes : List ℕ) (small : h < 2 ^ (8 * sizeOf ext)) (is-ext : bit ext ≡ field (layer4 ext) 4 h)
     (m : Header) (p : Passed (opened ext h) bytes m) where
@@ -116,7 +113,7 @@ module _ (ext : Bool) (h : ℕ) (bytes : List ℕ) (small : h < 2 ^ (8 * sizeOf 
 
   whole-again : header (layer4 ext) (valuesOf read) ≡ h
   unfolding read opened
-  whole-again = ap (header (layer4 ext)) values-again ∙ header-again (layer4 ext) h (p .checked) (small-again ext h small)
+  whole-again = ap (header (layer4 ext)) values-again ∙ header-again (layer4 ext) h (p .checked) (fields-small ext h small)
 
 -- ---- header, data and padding
 

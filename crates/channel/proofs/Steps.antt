@@ -1,6 +1,6 @@
 -- The step's definition, test by test, on the header as the code has it. Assumes nothing.
 use Prim.Native.Nat.{ℕ, _/_, _%_, _<_}
-use mathlib.Core.Path.{_≡_, refl}
+use mathlib.Core.Path.{_≡_}
 use mathlib.Core.Bool.{true, false}
 use mathlib.Core.List.{List}
 use native.Mathlib.Nat.{div-one}
@@ -24,7 +24,7 @@ module _ (c : Channel) (information : List ℕ) (rule : keepsRule c ≡ true) (l
 
     module _ (small : h < 65536) (channel : h / 64 / 64 % 16 ≡ 10) where
       ten : check 64 (h / 64) ≡ check 10 (h / 64)
-      ten = check-at 10 54 (h / 64) refl (omega arith)
+      ten = check-at 10 (h / 64) (omega arith) (omega arith)
 
       pub wrong-check : (check 64 (h / 64) ≡ h % 64 → ⊥) → leaves (refused 4) c ≡ stepOf c information
       unfolding stepOf

@@ -5,12 +5,13 @@ use mathlib.Core.Bool.{Bool, true, false}
 use mathlib.Core.List.{List, [], _∷_, _++_, append-assoc}
 use native.Mathlib.Nat.{add-assoc, sub-zero, zero-sub, suc-sub-suc}
 use native.Mathlib.Omega.{arith}
+use borrow.Author.Tests.{le-leb}
 use borrow.Rule.Slice.PartMut.{putMid}
 use lib.Dec.{eqb}
 use lib.ListN.{length, take, drop, replicate, length-append, length-drop, length-replicate}
 use lib.Seq.{paste, take-paste, drop-paste, length-paste, take-all, take-at, drop-at, take-length, take-append-add, drop-drop, length-take-le}
 use Rattle.header.specs.Check.{bit, check}
-use Rattle.header.specs.Fields.{total, header, withCheck, bytesOf}
+use Rattle.header.specs.Fields.{total, header, bytesOf}
 use Rattle.header.proofs.Bits.{bit-lt}
 use Rattle.header.proofs.Fields.{length-bytes}
 use Rattle.channel.specs.Layer3.{layer3, blockOf}
@@ -18,10 +19,11 @@ use Rattle.channel.specs.Layer4.{layer4, sizeOf}
 use Rattle.answers.specs.Numbers.{numberOf, accepted, refused, paper}
 use Rattle.answers.specs.declared.Refusal.{Refusal}
 use Rattle.answers.specs.declared.Answer.the-variants.{Accepted, Refused}
-use Rattle.channel.specs.Writer.{headerBytes, blocksOf, messageBytes, cut, flat, Written, written, Writes}
+use Rattle.channel.specs.Writer.{headerBytes, blocksOf, messageBytes, headerFor, cut, messageBlocks, flat, within, Written, written, Writes, writeOf}
+use Rattle.channel.specs.declared.writer.Fields.{Fields}
 use Rattle.channel.specs.declared.writer.Wrote.{Wrote}
 use Rattle.channel.specs.declared.Header.{Header}
-use Rattle.channel.proofs.Laws.{check-at, size-room}
+use Rattle.channel.proofs.Laws.{check-at, size-room, within-widths}
 
 -- two copies, one after the other, are one
 pub paste-paste : (d a b : List ℕ) (at n m : ℕ) → length a ≡ n → length b ≡ m → at + n + m ≤ length d
@@ -72,17 +74,13 @@ pub block-header : (di lf : Bool) (sc d l k : ℕ) → d ≡ bit di → l ≡ bi
 block-header di lf sc d l k ed el s ek =
     let x = ((20 + d) * 2 + l) * 16 + sc in
     let small : x < 2 ^ 10 = omega (arith, bit-lt di, bit-lt lf) in
-    rw (ek, check-at 10 54 x refl small, ed, el)
+    rw (ek, check-at 10 x (omega arith) small, ed, el)
 
 -- ---- header and data over zeros
 
-pub pack-small : (ext : Bool) (x : ℕ) → x < 2 ^ (8 * sizeOf ext - 6) → x < 2 ^ 34
+pub pack-small : (ext : Bool) (x : ℕ) → x < 2 ^ total (layer4 ext) → x < 2 ^ 34
 pack-small true x h = h
 pack-small false x h = omega (arith, h)
-
-pub message-header : (ext : Bool) (x k : ℕ) → x < 2 ^ (8 * sizeOf ext - 6) → k ≡ check 64 x → x * 64 + k ≡ withCheck (total (layer4 ext)) x
-message-header true x k h e = rw (e, check-at 34 30 x refl h)
-message-header false x k h e = rw (e, check-at 26 38 x refl h)
 
 module _ (zeros «data» header filled : List ℕ) (size : ℕ) (is : filled ≡ header) (long : length header ≡ size) where
   pub laid-length : size ≤ length zeros → length (filled ++ drop size zeros) ≡ length zeros
@@ -138,6 +136,18 @@ module _ (whole output output₀ bytes behind-blocks : List ℕ) (from to sc : �
 pub length-cut : (k : ℕ) (di : Bool) (sc : ℕ) (bytes : List ℕ) → length (cut k di sc bytes) ≡ k
 length-cut zero di sc bytes = refl
 length-cut (suc k) di sc bytes = ap suc (length-cut k di ((sc + 1) % 16) (drop 20 bytes))
+
+pub length-flat : (k : ℕ) (di : Bool) (sc : ℕ) (bytes : List ℕ) → length bytes ≡ 20 * k → length (flat (cut k di sc bytes)) ≡ 22 * k
+length-flat zero di sc bytes h = refl
+length-flat (suc k) di sc bytes h =
+    let b = blockOf di (eqb k 0) sc (take 20 bytes) in
+    let rest = cut k di ((sc + 1) % 16) (drop 20 bytes) in
+    length-append b (flat rest)
+    ∙ omega (arith, block-length di (eqb k 0) sc (take 20 bytes), length-take-le 20 bytes (omega arith), length-flat k di ((sc + 1) % 16) (drop 20 bytes) (length-drop 20 bytes ∙ omega arith))
+
+pub flat-append : (xs ys : List (List ℕ)) → flat (xs ++ ys) ≡ flat xs ++ flat ys
+flat-append [] ys = refl
+flat-append (x ∷ xs) ys = ap (λ (r : List ℕ). x ++ r) (flat-append xs ys) ∙ sym (append-assoc x (flat xs) (flat ys))
 
 drop-replicate : (n k a : ℕ) → drop n (replicate k a) ≡ replicate (k - n) a
 drop-replicate zero k a = rw sub-zero
@@ -195,3 +205,19 @@ all-written w blocks n r before after e l a b o =
       blocks = b ∙ sym l ∙ sym (ap (λ (v : Written). length (v .blocks)) e);
       output = o ∙ ap (λ (k : ℕ). flat blocks ++ drop (22 * k) before) (sym l) ∙ sym (ap (λ (v : Written). flat (v .blocks) ++ drop (22 * length (v .blocks)) before) e);
     }
+
+-- a message within its widths, and an output that holds its blocks: what the writer writes, in how many blocks and bytes
+module _ (m : Fields) (di : Bool) (sc : ℕ) (s : List ℕ) (w : within m sc (length s) ≡ true) where
+  pub message-written : (room : ℕ) → 22 * blocksOf (headerFor m (length s)) ≤ room → writeOf m di sc s room ≡ written accepted (messageBlocks m di sc s)
+  unfolding writeOf
+  message-written room h = rw (w, le-leb (22 * blocksOf (headerFor m (length s))) room h)
+
+  pub message-blocks : length (messageBlocks m di sc s) ≡ blocksOf (headerFor m (length s))
+  unfolding messageBlocks
+  message-blocks = length-cut (blocksOf (headerFor m (length s))) di sc _
+
+  pub message-bytes : length (flat (messageBlocks m di sc s)) ≡ 22 * blocksOf (headerFor m (length s))
+  unfolding messageBlocks
+  message-bytes =
+      let h = headerFor m (length s) in
+      length-flat (blocksOf h) di sc (messageBytes h s) (message-length h s refl (within-widths m sc (length s) w .4))

@@ -5,7 +5,7 @@ use mathlib.Core.Bool.{Bool, true, false, not}
 use mathlib.Core.List.{List, [], _∷_, _++_, append-assoc, append-nil}
 use native.Mathlib.Nat.{zero-add}
 use native.Mathlib.Omega.{arith}
-use borrow.Author.Tests.{eqb-true, ltb-true, le-leb}
+use borrow.Author.Tests.{eqb-true, ltb-true}
 use lib.Dec.{eqb, leb, ltb, eqb·suc-zero}
 use lib.ListN.{length, getD, take, drop, replicate, length-append, length-take, length-drop, take-append-drop}
 use lib.Seq.{paste, take-all, take-at, drop-at, length-take-le, take-append-le, drop-append-le}
@@ -17,12 +17,12 @@ use Rattle.channel.specs.Rules.{unless}
 use Rattle.channel.specs.Layer3.{layer3, headerOf, lfOf, scOf, blockOf}
 use Rattle.channel.specs.Layer4.{sizeOf, rightForm, blocksFor, zeros, openedAt, tested, messageOf}
 use Rattle.channel.specs.State.{keepsRule, asWaiting, channelOf, joined, followed, advanced, stepOf}
-use Rattle.channel.specs.Writer.{headerFor, blocksOf, cut, messageBytes, messageBlocks, within}
+use Rattle.channel.specs.Writer.{headerFor, blocksOf, cut, messageBytes, messageBlocks}
 use Rattle.channel.specs.Reading.{answersOf, channelAfter, Listens, Sent, dataOf, fieldsOf, WrittenAgain}
 use Rattle.channel.specs.declared.Header.{Header}
 use Rattle.channel.specs.declared.Channel.{Channel}
 use Rattle.channel.specs.declared.Phase.the-variants.{Gathering}
-use Rattle.channel.proofs.Laws.{rule-bytes, rule-sc}
+use Rattle.channel.proofs.Laws.{rule-bytes, rule-sc, within-true}
 use Rattle.channel.proofs.HeaderBack.{Right}
 use Rattle.channel.proofs.ReadBack.{Listening, listens, ready-none, next-rule, joined-front, joined-length}
 use Rattle.channel.proofs.MessageAgain.{bytes-take, bit-of, message-again}
@@ -225,16 +225,6 @@ header-of m d r e =
     let size = ap sizeOf ext ∙ sym (r .size) in
     λ i. record { ri = m .ri; ci = m .ci; first = m .first; last = m .last; ext = ext i; number = m .number; command = m .command; length = e i; size = size i }
 
-fields-within : (m : Header) (sc d : ℕ) → Right m → sc < 16 → d ≡ m .length → within (fieldsOf m) sc d ≡ true
-unfolding within
-fields-within m sc d r h e =
-    let a : m .ri ≤ 3 = omega (arith, r .ri) in
-    let b : m .ci ≤ 3 = omega (arith, r .ci) in
-    let n : m .number ≤ 16383 = omega (arith, r .number) in
-    let s : sc ≤ 15 = omega arith in
-    let l : d ≤ 255 = omega (arith, r .few) in
-    simp (le-leb _ _ a, le-leb _ _ b, le-leb _ _ n, le-leb _ _ s, le-leb _ _ l)
-
 pub written-again : (c : Channel) (di : Bool) (blocks : List (List ℕ)) (k : ℕ) (m : Header) → Listens c → Sent di blocks
     → answersOf c blocks ≡ replicate k taken ++ (message m ∷ []) → WrittenAgain c di blocks m
 unfolding messageBlocks
@@ -258,7 +248,7 @@ written-again c di blocks k m l s e =
     ap length part ∙ length-take-le (m .length) (drop (m .size) tw) (omega (arith, length-drop (m .size) tw)) in
     let h = header-of m _ r d in
     record {
-      accepted = fields-within m (c .expected) _ r (rule-sc c (l .rule)) d;
+      accepted = within-true (fieldsOf m) (c .expected) _ (r .ri) (r .ci) (r .number) (rule-sc c (l .rule)) (omega (arith, r .few));
       header = h;
       same = (λ i. cut (blocksOf (h i)) di (c .expected) (messageBytes (h i) (part i)))
           ∙ ap₂ (λ (n : ℕ) (x : List ℕ). cut n di (c .expected) x) count (again .row)

@@ -2,9 +2,8 @@
 ghost use mathlib.Core.Path.{_≡_};
 ghost use Prim.Native.Nat.{_*_, _≤_, _<_, _^_};
 ghost use lib.ListN.{length};
-ghost use Rattle.header.specs.Fields.{field};
 ghost use Rattle.channel.specs.Answers.{outcome};
-ghost use Rattle.channel.specs.Layer4.{sizeOf, layer4, opened, openedAt, rightForm, tested, messageOf, zeros};
+ghost use Rattle.channel.specs.Layer4.{only, sizeOf, opened, openedAt, rightForm, tested, messageOf, zeros};
 use crate::DATA_BYTES;
 use crate::Header;
 use crate::MESSAGE_BYTES;
@@ -32,39 +31,50 @@ fn header_at(bytes: &[u8]) -> Opened
     requires { ⌜ 20 ≤ length (now bytes) ⌝ }
     ensures { λ r. ⌜ r ≡ openedAt (now (bytes .entry)) ⌝ }
 {
-    if bytes[0] / 2 % 2 == 1 {
-        let h = row::number(&bytes[..5]);
-        let fields = h / 64;
-        return parted(h, true, 5, (fields >> 13) % 32, (fields >> 10) % 8);
-    }
-    parted(row::number(&bytes[..4]), false, 4, 0, 0)
+    let ext = bytes[0] / 2 % 2 == 1;
+    let size = size_of(ext);
+    parted(row::number(&bytes[..size]), ext, size)
 }
 
-// The fields of a header of `size` bytes, whose EXT ADD (`upper`) and RFA are given, 0 where it has none.
-fn parted(h: u64, ext: bool, size: usize, upper: u64, rfa: u64) -> Opened
+// The bytes of a header.
+pub fn size_of(ext: bool) -> usize
+    ensures { λ r. ⌜ (r ≡ sizeOf ext) × (4 ≤ r) × (r ≤ 5) ⌝ }
+{
+    if ext { 5 } else { 4 }
+}
+
+// The fields of a header of `size` bytes. Those in front stand below its top, those behind EXT ADD and RFA above its end.
+fn parted(h: u64, ext: bool, size: usize) -> Opened
     requires { ⌜ (size ≡ sizeOf ext) × (4 ≤ size) × (size ≤ 5) × (h < 2 ^ (8 * size)) ⌝ }
-    requires { ⌜ (upper ≡ field (layer4 ext) 6 h) × (upper < 32) × (rfa ≡ field (layer4 ext) 7 h) × (rfa < 8) ⌝ }
     ensures { λ r. ⌜ r ≡ opened ext h ⌝ }
 {
     let fields = h / 64;
-    let width = 8 * size - 6;
+    let top = 8 * size - 6;
+    let upper = with_ext(ext, (fields >> 13) % 32);
     let header = Header {
-        ri: ((fields >> (width - 2)) % 4) as u8,
-        ci: ((fields >> (width - 4)) % 4) as u8,
-        first: (fields >> (width - 5)) % 2 == 1,
-        last: (fields >> (width - 6)) % 2 == 1,
+        ri: ((fields >> (top - 2)) % 4) as u8,
+        ci: ((fields >> (top - 4)) % 4) as u8,
+        first: (fields >> (top - 5)) % 2 == 1,
+        last: (fields >> (top - 6)) % 2 == 1,
         ext,
-        number: (512 * upper + (fields >> (width - 16)) % 512) as u16,
+        number: (512 * upper + (fields >> (top - 16)) % 512) as u16,
         command: (fields >> 9) % 2 == 1,
         length: (fields % 256) as usize,
         size,
     };
     Opened {
         header,
-        rfa: rfa as u8,
+        rfa: with_ext(ext, (fields >> 10) % 8) as u8,
         caf: (fields >> 8) % 2 == 1,
         checked: header::check(fields) == h % 64,
     }
+}
+
+// A field that a header has with EXT only.
+fn with_ext(ext: bool, field: u64) -> u64
+    ensures { λ r. ⌜ (r ≡ only ext field) × (r ≤ field) ⌝ }
+{
+    if ext { field } else { 0 }
 }
 
 fn test(opened: Opened, bytes: &[u8]) -> Step

@@ -1,12 +1,12 @@
 // The message writer.
 ghost use mathlib.Core.List.{_++_};
 ghost use mathlib.Core.Path.{_≡_};
-ghost use Prim.Native.Nat.{_*_, _+_, _-_, _<_, _≤_, _^_};
+ghost use Prim.Native.Nat.{_*_, _+_, _<_, _≤_, _^_};
 ghost use lib.ListN.{length, drop};
 ghost use lib.Dec.{leb};
 ghost use lib.Seq.{paste};
 ghost use Rattle.header.specs.Check.{bit};
-ghost use Rattle.header.specs.Fields.{packed, header};
+ghost use Rattle.header.specs.Fields.{total, packed};
 ghost use Rattle.channel.specs.Layer3.{blockOf};
 ghost use Rattle.channel.specs.Layer4.{sizeOf, layer4};
 ghost use Rattle.channel.specs.Writer.{headerFor, valuesOf, headerBytes, cut, within, writeOf, Writes, flat};
@@ -14,6 +14,7 @@ use crate::DATA_BYTES;
 use crate::Header;
 use crate::INFORMATION_BYTES;
 use crate::MESSAGE_BYTES;
+use crate::layer4;
 use crate::row;
 use answers::Answer;
 use answers::Refusal;
@@ -97,14 +98,8 @@ fn header_for(fields: Fields, length: usize) -> Header
         number: fields.number,
         command: fields.command,
         length,
-        size: size_of(ext),
+        size: layer4::size_of(ext),
     }
-}
-
-fn size_of(ext: bool) -> usize
-    ensures { λ r. ⌜ r ≡ sizeOf ext ⌝ }
-{
-    if ext { 5 } else { 4 }
 }
 
 fn one(b: bool) -> u64
@@ -116,7 +111,7 @@ fn one(b: bool) -> u64
 // The fields of a header in the order written, as one number.
 fn pack(header: Header) -> u64
     requires { ⌜ (header .ri < 4) × (header .ci < 4) × (header .number < 16384) × (header .length < 256) × (header .ext ≡ leb 512 (header .number)) ⌝ }
-    ensures { λ r. ⌜ (r ≡ packed (layer4 (header .ext)) (valuesOf header)) × (r < 2 ^ (8 * sizeOf (header .ext) - 6)) ⌝ }
+    ensures { λ r. ⌜ (r ≡ packed (layer4 (header .ext)) (valuesOf header)) × (r < 2 ^ total (layer4 (header .ext))) ⌝ }
 {
     let number = header.number as u64;
     let front = (((header.ri as u64) * 4 + (header.ci as u64)) * 2 + one(header.first)) * 2

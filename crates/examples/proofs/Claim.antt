@@ -3,7 +3,7 @@ use mathlib.Core.Path.{_≡_, refl, sym, ap, _∙_, subst}
 use mathlib.Core.Bool.{Bool, true, false, _&&_, false≢true}
 use mathlib.Core.List.{List, [], _∷_, _++_}
 use mathlib.Core.Logic.{inl, inr}
-use Prim.Native.Nat.{ℕ, zero, suc, _≤_, _<_}
+use Prim.Native.Nat.{ℕ, zero, suc, _+_, _≤_, _<_}
 use native.Mathlib.Omega.{arith}
 use lib.Dec.{T, ltb, ltb→lt, lit≤, lit<}
 use lib.ListN.{length, getD, replicate}
@@ -12,7 +12,18 @@ use Rattle.code.proofs.Majority.{only-word, nine-away}
 use Rattle.block.specs.Bytes.{AreBytes, bitOf, rowOf}
 use Rattle.block.specs.Blocks.{checkDivisor, CheckRight}
 use Rattle.block.proofs.Bytes.{row-once, length-rowOf}
-use Rattle.examples.specs.Table.{word, noWord, wrongCheck, Holds, AllHold, zeros, generatorBlock, tenCleared, nineCleared, table}
+use Rattle.header.specs.Check.{bits, check}
+use Rattle.channel.specs.declared.Phase.{Phase}
+use Rattle.channel.specs.declared.Phase.the-variants.{Waiting, Ready}
+use Rattle.channel.specs.Answers as channel
+use Rattle.channel.specs.Answers.{Left, leaves}
+use Rattle.channel.specs.Layer4.{sizeOf, blocksFor}
+use Rattle.channel.specs.State.{channelOf, fresh, keepsRule, asWaiting, advanced, stepOf}
+use Rattle.channel.specs.Writer.{headerFor, blocksOf, messageBytes, messageBlocks}
+use Rattle.channel.proofs.Writing.{length-cut}
+use Rattle.answers.specs.Numbers.{accepted}
+use Rattle.band.specs.Band.{Told, kilohertzOf}
+use Rattle.examples.specs.Table.{header, khz, reserved, blocks, word, noWord, wrongCheck, Holds, AllHold, zeros, generatorBlock, tenCleared, nineCleared, table}
 
 -- numbers below 256, by one computed test
 abbrev allBytes : List ℕ → Bool
@@ -100,5 +111,48 @@ p5-nine : Holds (noWord nineCleared)
 unfolding rowOf bitOf
 p5-nine = noWord-holds nineCleared (zeros 34) refl zero-code refl
 
+-- what a fresh channel does with a header
+header-holds : (first second number : ℕ) (phase : Phase) (expected : ℕ)
+    → stepOf fresh (first ∷ second ∷ zeros 20) ≡ leaves (channel.refused number) (channelOf (replicate 260 0) 0 phase expected)
+    → Holds (header first second number phase expected)
+header-holds first second number phase expected s r e =
+    (ap (λ (l : Left). l .answer) (e ∙ s), ap (λ (l : Left). l .channel .phase) (e ∙ s), ap (λ (l : Left). l .channel .expected) (e ∙ s))
+
+p6 : Holds (header 164 25 8 Ready 1)
+unfolding stepOf fresh keepsRule advanced asWaiting check bits
+p6 = header-holds 164 25 8 Ready 1 refl
+
+p7 : Holds (header 164 24 4 Waiting 0)
+unfolding stepOf fresh keepsRule check bits
+p7 = header-holds 164 24 4 Waiting 0 refl
+
+p8 : Holds (header 0 0 5 Waiting 0)
+unfolding stepOf fresh keepsRule
+p8 = header-holds 0 0 5 Waiting 0 refl
+
+khz-holds : (number kilohertz : ℕ) → kilohertzOf (record { 0 = number }) ≡ record { answer = accepted; number = kilohertz } → Holds (khz number kilohertz)
+khz-holds number kilohertz s r e = (ap (λ (t : Told). t .answer) (e ∙ s), ap (λ (t : Told). t .number) (e ∙ s))
+
+p9-first : Holds (khz 1 87600)
+p9-first = khz-holds 1 87600 refl
+
+p9-last : Holds (khz 204 107900)
+p9-last = khz-holds 204 107900 refl
+
+p10 : Holds (reserved 205)
+p10 r e = (ap (λ (t : Told). t .answer) e, ap (λ (t : Told). t .number) e)
+
+blocks-holds : (ext : Bool) (bytes count : ℕ) → blocksFor (sizeOf ext + bytes) ≡ count → Holds (blocks ext bytes count)
+unfolding messageBlocks
+blocks-holds ext bytes count e m di sc s form long =
+    length-cut (blocksOf (headerFor m (length s))) di sc (messageBytes (headerFor m (length s)) s) ∙ (λ i. blocksFor (sizeOf (form i) + long i)) ∙ e
+
+p11 : Holds (blocks false 16 1)
+p11 = blocks-holds false 16 1 refl
+
+p12 : Holds (blocks false 17 2)
+p12 = blocks-holds false 17 2 refl
+
 pub claim : AllHold table
-claim = (p1, (p2, (p3, (p4, (p4-read, (p5, (p5-nine, tt)))))))
+claim =
+    (p1, (p2, (p3, (p4, (p4-read, (p5, (p5-nine, (p6, (p7, (p8, (p9-first, (p9-last, (p10, (p11, (p12, tt)))))))))))))))

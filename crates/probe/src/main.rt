@@ -2,9 +2,11 @@
 // line for each case. docs/PROBE.md has the notation. Each area has a module, with a function for each of its commands.
 mod blocks;
 mod cases;
+mod floats;
 mod groups;
 mod messages;
 mod put;
+mod surveys;
 
 use libc::STDERR_FILENO;
 use libc::STDIN_FILENO;
@@ -35,6 +37,9 @@ fn answer(line: &[u8], answers: &mut [u8], at: usize) -> usize {
     }
     if groups::has(command) {
         return groups::answer(line, answers, at);
+    }
+    if surveys::has(command) {
+        return surveys::answer(line, answers, at);
     }
     cases::bad(answers, at)
 }

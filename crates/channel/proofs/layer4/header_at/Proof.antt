@@ -1,65 +1,53 @@
--- `channel::layer4::header_at` reads EXT, and then the header of 5 or 4 bytes. Assumes nothing.
-use Prim.Native.Nat.{_*_, _^_, _<_, _/_}
-use mathlib.Core.Bool.{true, false}
-use mathlib.Core.Path.{_≡_, refl, sym, ap, _∙_}
-use native.Mathlib.Nat.{mod-one}
+-- `channel::layer4::header_at` reads EXT, and then the header of 4 or 5 bytes. Assumes nothing.
+use Prim.Native.Nat.{ℕ, _*_, _<_, _^_}
+use mathlib.Core.Path.{_≡_, sym, ap, _∙_}
 use native.Mathlib.Omega.{arith}
-use borrow.Author.Tests.{eq-eqb, ne-eqb}
 use lib.ListN.{length, take}
 use lib.Seq.{length-take-le}
-use Rattle.channel.specs.Layer4.{opened, openedAt}
+use Rattle.header.specs.Fields.{numberOf}
+use Rattle.channel.specs.Layer4.{opened, openedAt, extOf}
 use borrow.Author.Needs.{needs}
 use Rattle.channel.proofs.layer4.header_at.Statement.{statement}
 use Rattle.channel.proofs.layer4.header_at.Tie as tie
 
-shared-slice-read-if1 : tie.Need-shared-slice-read-if1
-shared-slice-read-if1 c = search needs
+shared-slice-read-ext : tie.Need-shared-slice-read-ext
+shared-slice-read-ext c = search needs
+
+size-of-requires : tie.Need-size-of-requires
+size-of-requires c κs = search needs
 
 slice-aggregate-number : tie.Need-slice-aggregate-number
-slice-aggregate-number c = sym (length-take-le 5 (c .before .before .before .before .args .bytes .now) (omega arith))
+slice-aggregate-number c =
+    let k = c .before in
+    sym (length-take-le (k .size-of .result) (k .before .before .before .args .bytes .now) (omega arith))
 
 number-requires : tie.Need-number-requires
-number-requires c κs = omega (arith, length-take-le 5 (c .before .before .before .before .args .bytes .now) (omega arith))
+number-requires c κs =
+    let k = c .before in
+    omega (arith, length-take-le (k .size-of .result) (k .before .before .before .args .bytes .now) (omega arith))
 
 parted-requires : tie.Need-parted-requires
 parted-requires c κs =
-    let bytes = c .before .before .before .before .before .args .bytes .now in
-    let five : length (take 5 bytes) ≡ 5 = length-take-le 5 bytes (omega arith) in
-    let h : c .number .result < 2 ^ (8 * 5) = rw five at (c .number .ensures .1) in
-    ((refl, omega arith, omega arith, h), (refl, omega arith, refl, omega arith))
+    let k = c .before .before in
+    let bytes = k .before .before .before .args .bytes .now in
+    let long : length (take (k .size-of .result) bytes) ≡ k .size-of .result = length-take-le (k .size-of .result) bytes (omega arith) in
+    let small : c .number .result < 2 ^ (8 * k .size-of .result) = rw long at (c .number .ensures .1) in
+    (k .size-of .ensures .0, k .size-of .ensures .1, k .size-of .ensures .2, small)
 
 returns : tie.Need-returns
 unfolding openedAt
-returns c = c .parted .ensures ∙ (let k = c .before .before .before in rw (eq-eqb _ _ (k .if1 .taken)) (ap (opened true) (c .before .number .ensures .0)))
-
-slice-aggregate-number-2 : tie.Need-slice-aggregate-number-2
-slice-aggregate-number-2 c = sym (length-take-le 4 (c .before .before .before .before .args .bytes .now) (omega arith))
-
-number-requires-2 : tie.Need-number-requires-2
-number-requires-2 c κs = omega (arith, length-take-le 4 (c .before .before .before .before .args .bytes .now) (omega arith))
-
-parted-requires-2 : tie.Need-parted-requires-2
-parted-requires-2 c κs =
-    let bytes = c .before .before .before .before .before .args .bytes .now in
-    let four : length (take 4 bytes) ≡ 4 = length-take-le 4 bytes (omega arith) in
-    let h : c .number2 .result < 2 ^ (8 * 4) = rw four at (c .number2 .ensures .1) in
-    let none = sym (mod-one (c .number2 .result / 64 / 1024)) in
-    ((refl, omega arith, omega arith, h), (none, omega arith, none, omega arith))
-
-returns-2 : tie.Need-returns-2
-unfolding openedAt
-returns-2 c = c .parted2 .ensures ∙ (let k = c .before .before .before in rw (ne-eqb _ _ (k .if1 .left)) (ap (opened false) (c .before .number2 .ensures .0)))
+returns c =
+    let k = c .before .before .before in
+    let bytes = k .before .before .before .args .bytes .now in
+    c .parted .ensures ∙ ap (opened (extOf bytes)) (c .before .number .ensures .0 ∙ ap (λ (n : ℕ). numberOf (take n bytes)) (k .size-of .ensures .0))
 
 pub header-at-spec : {M : Type 1} → statement M
 header-at-spec =
     tie.close
     (tie.spec
-    shared-slice-read-if1
+    shared-slice-read-ext
+    size-of-requires
     slice-aggregate-number
     number-requires
     parted-requires
-    returns
-    slice-aggregate-number-2
-    number-requires-2
-    parted-requires-2
-    returns-2)
+    returns)

@@ -7,7 +7,7 @@ size-of-requires : tie.Need-size-of-requires
 size-of-requires c κs = search needs
 
 returns : tie.Need-returns
-returns c = rw (c .size-of .ensures)
+returns c = rw (c .size-of .ensures .0)
 
 pub header-for-spec : {M : Type 1} → statement M
 header-for-spec = tie.close (tie.spec size-of-requires returns)

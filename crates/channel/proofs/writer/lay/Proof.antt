@@ -10,7 +10,8 @@ use Rattle.header.proofs.Fields.{length-bytes}
 use Rattle.channel.specs.Layer4.{layer4}
 use Rattle.channel.specs.Writer.{valuesOf, headerBytes}
 use Rattle.channel.proofs.Laws.{check-small}
-use Rattle.channel.proofs.Writing.{pack-small, message-header, laid, laid-length}
+use Rattle.channel.proofs.Headers.{check-over}
+use Rattle.channel.proofs.Writing.{pack-small, laid, laid-length}
 use borrow.Author.Needs.{needs}
 use Rattle.channel.proofs.writer.lay.Statement.{statement}
 use Rattle.channel.proofs.writer.lay.Tie as tie
@@ -26,7 +27,7 @@ filled c =
     let l : length (a .zeros) ≡ 260 = search needs in
     let n : length (take (a .header .size) (a .zeros)) ≡ a .header .size = length-take-le (a .header .size) (a .zeros) (omega arith) in
     let x : k .before .pack .result * 64 + k .check .result ≡ header (layer4 (a .header .ext)) (valuesOf (a .header)) =
-    message-header (a .header .ext) (k .before .pack .result) (k .check .result) (k .before .pack .ensures .1) (k .check .ensures)
+    ap (λ (n : ℕ). k .before .pack .result * 64 + n) (k .check .ensures ∙ check-over (a .header .ext) (k .before .pack .result) (k .before .pack .ensures .1))
     ∙ ap (withCheck (total (layer4 (a .header .ext)))) (k .before .pack .ensures .0) in
     (c .put-number .ensures ∙ ap₂ bytesOf (n ∙ s .pre .6) x, length-bytes _ _ ∙ sym (s .pre .6))
 

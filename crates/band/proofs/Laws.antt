@@ -1,0 +1,38 @@
+-- Channels and frequencies: their ranges, and that the conversions undo each other. Assumes nothing.
+use Prim.Native.Nat.{ℕ, _+_, _-_, _*_, _/_, _%_, _≤_}
+use mathlib.Core.Path.{_≡_, refl}
+use mathlib.Core.Bool.{Bool, true, false, _&&_}
+use lib.Dec.{leb, eqb}
+use borrow.Author.Tests.{leb-true, le-leb, eqb-true}
+use native.Mathlib.Omega.{arith}
+use Rattle.answers.specs.Numbers.{accepted}
+use Rattle.band.specs.Band.{isChannel, isFrequency, kilohertzOf, channelOf}
+
+pub and-both : (s t : Bool) → (s && t) ≡ true → (s ≡ true) × (t ≡ true)
+and-both true t e = (refl, e)
+and-both false true e = (e, refl)
+and-both false false e = (e, e)
+
+pub in-range : (n : ℕ) → isChannel n ≡ true → (1 ≤ n) × (n ≤ 204)
+in-range n e = let a = and-both (leb 1 n) (leb n 204) e in (leb-true 1 n (a .0), leb-true n 204 (a .1))
+
+pub in-band : (f : ℕ) → isFrequency f ≡ true → (87600 ≤ f) × (f ≤ 107900) × (f % 100 ≡ 0)
+in-band f e =
+    let a = and-both (leb 87600 f && leb f 107900) (eqb (f % 100) 0) e in
+    let b = and-both (leb 87600 f) (leb f 107900) (a .0) in
+    (leb-true 87600 f (b .0), leb-true f 107900 (b .1), eqb-true (f % 100) 0 (a .1))
+
+-- A CHANNEL'S FREQUENCY IS THAT CHANNEL'S
+pub channel-back : (n : ℕ) → isChannel n ≡ true → channelOf (record { 0 = 87500 + 100 * n }) ≡ record { answer = accepted; number = n }
+channel-back n e =
+    let r = in-range n e in
+    let f : (87500 + 100 * n) % 100 ≡ 0 = omega (arith, r .0) in
+    let b : (87500 + 100 * n - 87500) / 100 ≡ n = omega (arith, r .0) in
+    rw (le-leb 87600 (87500 + 100 * n) (omega arith), le-leb (87500 + 100 * n) 107900 (omega arith), f, b)
+
+-- AND A FREQUENCY'S CHANNEL HAS THAT FREQUENCY
+pub frequency-back : (f : ℕ) → isFrequency f ≡ true → kilohertzOf (record { 0 = (f - 87500) / 100 }) ≡ record { answer = accepted; number = f }
+frequency-back f e =
+    let r = in-band f e in
+    let n : 87500 + 100 * ((f - 87500) / 100) ≡ f = omega (arith, r .0, r .1, r .2) in
+    rw (le-leb 1 ((f - 87500) / 100) (omega (arith, r .0)), le-leb ((f - 87500) / 100) 204 (omega (arith, r .1)), n)

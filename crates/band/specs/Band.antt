@@ -1,0 +1,42 @@
+-- Document 01, "The log and its report": channel numbers and kilohertz (000, table 9). Assumes nothing.
+use Prim.Native.Nat.{ℕ, _+_, _-_, _*_, _/_, _%_}
+use mathlib.Core.Bool.{Bool, cond, _&&_}
+use lib.Dec.{leb, eqb}
+use Rattle.answers.specs.Numbers.{Paper, accepted, refused, paper}
+use Rattle.band.specs.declared.Channel.{Channel}
+use Rattle.band.specs.declared.Kilohertz.{Kilohertz}
+use Rattle.band.specs.declared.ChannelAnswer.{ChannelAnswer}
+use Rattle.band.specs.declared.KilohertzAnswer.{KilohertzAnswer}
+
+-- What is told of a channel or of a frequency: the paper's answer, and a number.
+pub record Told : Type 0 where
+  pub answer : Paper
+  pub number : ℕ
+
+abbrev pub toldChannel : ChannelAnswer → Told
+toldChannel r = record { answer = paper (r .answer); number = r .channel .0 }
+
+abbrev pub toldKilohertz : KilohertzAnswer → Told
+toldKilohertz r = record { answer = paper (r .answer); number = r .kilohertz .0 }
+
+-- a number where the test holds, else 11 and 0
+abbrev pub only : Bool → ℕ → Told
+only test n = cond test (record { answer = accepted; number = n }) (record { answer = refused 11; number = 0 })
+
+-- 1 to 204; 0 and 205 to 255 are reserved
+abbrev pub isChannel : ℕ → Bool
+isChannel n = leb 1 n && leb n 204
+
+abbrev pub numberedOf : ℕ → Told
+numberedOf n = only (isChannel n) n
+
+-- number n is 87,500 + 100 n kHz
+abbrev pub kilohertzOf : Channel → Told
+kilohertzOf c = only (isChannel (c .0)) (87500 + 100 * c .0)
+
+-- a frequency of the channels 1 to 204
+abbrev pub isFrequency : ℕ → Bool
+isFrequency f = leb 87600 f && leb f 107900 && eqb (f % 100) 0
+
+abbrev pub channelOf : Kilohertz → Told
+channelOf k = only (isFrequency (k .0)) ((k .0 - 87500) / 100)

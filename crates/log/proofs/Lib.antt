@@ -1,0 +1,14 @@
+pub mod Lists
+pub mod Decimal
+pub mod Sound
+pub mod Lines
+pub mod Plain
+pub mod Outcomes
+pub mod Runs
+pub mod Goes
+pub mod Written
+pub mod Accepted
+pub mod Exact
+pub mod Pieces
+pub mod Determined
+pub mod Refused

@@ -1,0 +1,123 @@
+-- Laws of tests, and of texts that are the same. Assumes nothing.
+use Prim.Native.Nat.{ℕ, suc, _+_, _-_, _<_, _≤_}
+use mathlib.Core.Path.{_≡_, refl, ap, sym, _∙_}
+use mathlib.Core.Bool.{Bool, true, false, cond, not, _&&_, _||_}
+use mathlib.Core.List.{List, [], _∷_, _++_}
+use native.Mathlib.Numerals.{add-one}
+use native.Mathlib.Omega.{arith}
+use lib.ListN.{length, getD, take, drop, length-drop, drop-of-length-le}
+use lib.Seq.{drop-cons, take-suc, take-all}
+use lib.Dec.{eqb}
+use borrow.Author.Tests.{eqb-true, eq-eqb}
+use Rattle.band.proofs.Laws.{and-both}
+use Rattle.log.specs.Log.{same}
+
+pub cond-with {ℓ} : {A : Type ℓ} (P : A → Type 0) (t : Bool) {x y : A} → (t ≡ true → P x) → (t ≡ false → P y) → P (cond t x y)
+cond-with P true f g = f refl
+cond-with P false f g = g refl
+
+pub by-cases {ℓ} : (P : Type ℓ) (t : Bool) → (t ≡ true → P) → (t ≡ false → P) → P
+by-cases P true f g = f refl
+by-cases P false f g = g refl
+
+pub and-false : (t : Bool) → (t && false) ≡ false
+and-false true = refl
+and-false false = refl
+
+pub and-true : (t : Bool) → (t && true) ≡ t
+and-true true = refl
+and-true false = refl
+
+pub and-assoc : (s t u : Bool) → (s && (t && u)) ≡ ((s && t) && u)
+and-assoc true t u = refl
+and-assoc false t u = refl
+
+pub not-true : (t : Bool) → not t ≡ true → t ≡ false
+not-true true e = sym e
+not-true false e = refl
+
+same-none : (a : List ℕ) (x : ℕ) → same [] (a ++ (x ∷ [])) ≡ false
+unfolding same
+same-none [] x = refl
+same-none (b ∷ a) x = refl
+
+none-same : (a : List ℕ) (x : ℕ) → same (a ++ (x ∷ [])) [] ≡ false
+unfolding same
+none-same [] x = refl
+none-same (b ∷ a) x = refl
+
+-- texts are compared from the last byte on
+pub same-snoc : (a b : List ℕ) (x y : ℕ) → same (a ++ (x ∷ [])) (b ++ (y ∷ [])) ≡ (same a b && eqb x y)
+unfolding same
+same-snoc [] [] x y = and-true (eqb x y)
+same-snoc [] (c ∷ b) x y = ap (λ (t : Bool). eqb x c && t) (same-none b y) ∙ and-false (eqb x c)
+same-snoc (c ∷ a) [] x y = ap (λ (t : Bool). eqb c y && t) (none-same a x) ∙ and-false (eqb c y)
+same-snoc (c ∷ a) (d ∷ b) x y = ap (λ (t : Bool). eqb c d && t) (same-snoc a b x y) ∙ and-assoc (eqb c d) (same a b) (eqb x y)
+
+pub same-empty : (a : List ℕ) (x : ℕ) → same [] (a ++ (x ∷ [])) ≡ false
+same-empty a x = same-none a x
+
+pub same-append : (a b c d : List ℕ) → length a ≡ length c → same (a ++ b) (c ++ d) ≡ (same a c && same b d)
+unfolding same
+same-append [] b [] d e = refl
+same-append [] b (y ∷ c) d e = absurd (differ (length c) e)
+  where
+    differ : (n : ℕ) → 0 ≡ suc n → ⊥
+    differ n e = omega arith
+same-append (x ∷ a) b [] d e = absurd (differ (length a) e)
+  where
+    differ : (n : ℕ) → suc n ≡ 0 → ⊥
+    differ n e = omega arith
+same-append (x ∷ a) b (y ∷ c) d e =
+    let l : length a ≡ length c = omega arith in
+    ap (λ (t : Bool). eqb x y && t) (same-append a b c d l) ∙ and-assoc (eqb x y) (same a c) (same b d)
+
+pub same-refl : (a : List ℕ) → same a a ≡ true
+unfolding same
+same-refl [] = refl
+same-refl (x ∷ a) = rw (eq-eqb x x refl) (same-refl a)
+
+pub same-length : (a b : List ℕ) → (length a ≡ length b → ⊥) → same a b ≡ false
+unfolding same
+same-length [] [] h = absurd (h refl)
+same-length [] (b ∷ bs) h = refl
+same-length (a ∷ xs) [] h = refl
+same-length (a ∷ xs) (b ∷ bs) h = rw (same-length xs bs (λ e. h (ap suc e))) (and-false (eqb a b))
+
+pub same-here : (a b : List ℕ) (i : ℕ) → i < length a → i < length b
+    → same (drop i a) (drop i b) ≡ (eqb (getD a i 0) (getD b i 0) && same (drop (i + 1) a) (drop (i + 1) b))
+unfolding same
+same-here a b i h k = rw (add-one i, drop-cons a i 0, drop-cons b i 0)
+
+pub same-end : (a b : List ℕ) (i : ℕ) → length a ≤ i → length b ≤ i → same (drop i a) (drop i b) ≡ true
+unfolding same
+same-end a b i h k = rw (drop-of-length-le a h, drop-of-length-le b k)
+
+-- the last byte of a part
+pub take-last : (l : List ℕ) (i : ℕ) → 1 ≤ i → i ≤ length l → take i l ≡ take (i - 1) l ++ (getD l (i - 1) 0 ∷ [])
+take-last l i h k =
+    let e : i ≡ suc (i - 1) = omega arith in
+    ap (λ (j : ℕ). take j l) e ∙ take-suc l (i - 1) 0 (omega arith)
+
+pub tail-part : (n : ℕ) (l : List ℕ) → n ≤ length l → take (length l - n) (drop n l) ≡ drop n l
+tail-part n l h = take-all (length l - n) (drop n l) (rw length-drop (omega arith))
+
+pub or-false : (t : Bool) → (t || false || false || false) ≡ t
+or-false true = refl
+or-false false = refl
+
+pub and-no : (s t : Bool) → (t && (s && false)) ≡ false
+and-no true true = refl
+and-no false true = refl
+and-no s false = refl
+
+pub same-true : (a b : List ℕ) → same a b ≡ true → a ≡ b
+unfolding same
+same-true [] [] e = refl
+same-true [] (y ∷ b) e = let z : _≡_ {A = ℕ} 0 1 = cc in absurd (omega arith)
+same-true (x ∷ a) [] e = let z : _≡_ {A = ℕ} 0 1 = cc in absurd (omega arith)
+same-true (x ∷ a) (y ∷ b) e =
+    let r = and-both (eqb x y) (same a b) e in
+    let p = eqb-true x y (r .0) in
+    let q = same-true a b (r .1) in
+    cc

@@ -1,0 +1,81 @@
+use Rattle.log.specs.Log.{isSound}
+use borrow.Author.Tests.{le-leb, lt-leb, eq-eqb, ne-eqb}
+use Prim.Native.Nat.{_+_, _-_}
+use native.Mathlib.Omega.{arith}
+use borrow.Author.Needs.{needs}
+use Rattle.log.proofs.count.is_sound.Statement.{statement}
+use Rattle.log.proofs.count.is_sound.Tie as tie
+
+returns : tie.Need-returns
+unfolding isSound
+returns c = let x = c .before .before .args .counts in simp (lt-leb (x .slots) 999999 (omega arith))
+
+wide-requires : tie.Need-wide-requires
+wide-requires c κs = search needs
+
+wide-requires-2 : tie.Need-wide-requires-2
+wide-requires-2 c κs = search needs
+
+add-sum : tie.Need-add-sum
+add-sum c = search needs
+
+wide-requires-3 : tie.Need-wide-requires-3
+wide-requires-3 c κs = search needs
+
+add-sum-2 : tie.Need-add-sum-2
+add-sum-2 c = search needs
+
+wide-requires-4 : tie.Need-wide-requires-4
+wide-requires-4 c κs = search needs
+
+add-sum-3 : tie.Need-add-sum-3
+add-sum-3 c = search needs
+
+wide-requires-5 : tie.Need-wide-requires-5
+wide-requires-5 c κs = search needs
+
+returns-2 : tie.Need-returns-2
+unfolding isSound
+returns-2 c =
+    let x = c .before .before .before .before .before .before .before .before .args .counts in
+    simp (le-leb (x .slots) 999999 (omega arith), ne-eqb (x .slots) (x .read + x .noword + x .check + x .missing) (λ e. omega arith))
+
+returns-3 : tie.Need-returns-3
+unfolding isSound
+returns-3 c =
+    let x = c .before .before .before .before .before .before .before .before .before .before .args .counts in
+    simp (le-leb (x .slots) 999999 (omega arith), eq-eqb (x .slots) (x .read + x .noword + x .check + x .missing) (omega arith), lt-leb (x .clean) (x .read) (omega arith))
+
+returns-4 : tie.Need-returns-4
+unfolding isSound
+returns-4 c =
+    let x = c .before .before .before .before .before .before .before .before .before .before .before .before .before .args .counts in
+    simp (le-leb (x .slots) 999999 (omega arith), eq-eqb (x .slots) (x .read + x .noword + x .check + x .missing) (omega arith), le-leb (x .clean) (x .read) (omega arith), lt-leb (x .read - x .clean) (x .bits) (omega arith))
+
+mul-result : tie.Need-mul-result
+mul-result c = search needs
+
+returns-5 : tie.Need-returns-5
+unfolding isSound
+returns-5 c =
+    let x = c .before .before .before .before .before .before .before .before .before .before .before .before .before .before .args .counts in
+    simp (le-leb (x .slots) 999999 (omega arith), eq-eqb (x .slots) (x .read + x .noword + x .check + x .missing) (omega arith), le-leb (x .clean) (x .read) (omega arith), le-leb (x .read - x .clean) (x .bits) (omega arith))
+
+pub is-sound-spec : {M : Type 1} → statement M
+is-sound-spec =
+    tie.close
+    (tie.spec
+    returns
+    wide-requires
+    wide-requires-2
+    add-sum
+    wide-requires-3
+    add-sum-2
+    wide-requires-4
+    add-sum-3
+    wide-requires-5
+    returns-2
+    returns-3
+    returns-4
+    mul-result
+    returns-5)

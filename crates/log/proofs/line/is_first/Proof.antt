@@ -1,0 +1,61 @@
+use Rattle.log.proofs.Lines.{first-parts, first-short}
+use Rattle.log.proofs.Lists.{tail-part}
+use Rattle.log.specs.Log.{same}
+use Rattle.log.specs.Decimal.{decimal}
+use Prim.Native.Nat.{ℕ}
+use mathlib.Core.List.{List}
+use mathlib.Core.Path.{sym, _∙_, ap}
+use native.Mathlib.Omega.{arith}
+use lib.Seq.{length-take-le}
+use denote.Ref.{now}
+use borrow.Author.Needs.{needs}
+use Rattle.log.proofs.line.is_first.Statement.{statement}
+use Rattle.log.proofs.line.is_first.Tie as tie
+
+returns : tie.Need-returns
+returns c = sym (first-short (now (c .before .before .args .line)) (c .before .before .args .channel) (c .if1 .taken))
+
+slice-aggregate-same : tie.Need-slice-aggregate-same
+slice-aggregate-same c = sym (length-take-le 8 (now (c .before .before .before .args .line)) (omega arith))
+
+slice-aggregate-same-2 : tie.Need-slice-aggregate-same-2
+slice-aggregate-same-2 c = search needs
+
+same-requires : tie.Need-same-requires
+same-requires c κs = search needs
+
+sub-spells : tie.Need-sub-spells
+sub-spells c = search needs
+
+part-spells-start : tie.Need-part-spells-start
+part-spells-start c = search needs
+
+part-spells-end : tie.Need-part-spells-end
+part-spells-end c = search needs
+
+spells-requires : tie.Need-spells-requires
+spells-requires c κs = search needs
+
+returns-2 : tie.Need-returns-2
+returns-2 c =
+    let l = now (c .before .before .before .before .before .before .before .before .args .line) in
+    c .spells .ensures ∙ ap (λ (k : List ℕ). same k (decimal (c .before .before .before .before .before .before .before .before .args .channel))) (tail-part 8 l (omega arith))
+    ∙ sym (first-parts l (c .before .before .before .before .before .before .before .before .args .channel) (omega arith) ∙ rw (sym (c .before .before .before .same .ensures) ∙ c .before .before .if2 .taken))
+
+returns-3 : tie.Need-returns-3
+returns-3 c = let l = now (c .before .before .before .before .before .before .args .line) in sym (first-parts l (c .before .before .before .before .before .before .args .channel) (omega arith) ∙ rw (sym (c .before .same .ensures) ∙ c .if2 .left))
+
+pub is-first-spec : {M : Type 1} → statement M
+is-first-spec =
+    tie.close
+    (tie.spec
+    returns
+    slice-aggregate-same
+    slice-aggregate-same-2
+    same-requires
+    sub-spells
+    part-spells-start
+    part-spells-end
+    spells-requires
+    returns-2
+    returns-3)

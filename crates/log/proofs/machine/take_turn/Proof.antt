@@ -1,0 +1,64 @@
+use Rattle.log.specs.Reader.{between, isOpen}
+use Rattle.log.specs.declared.Phase.the-variants.{Open}
+use Rattle.log.proofs.Goes.{goes-byte, goes-shut, open-between}
+use Rattle.log.proofs.Runs.{ruled}
+use Rattle.log.specs.Machine.{Goes}
+use Rattle.log.specs.declared.Reader.{Reader}
+use borrow.Author.Tests.{not-true, not-false}
+use mathlib.Core.Path.{sym, _∙_, subst}
+use native.Mathlib.Omega.{arith}
+use denote.Ref.{now}
+use borrow.Author.Needs.{needs}
+use Rattle.log.proofs.machine.take_turn.Statement.{statement}
+use Rattle.log.proofs.machine.take_turn.Tie as tie
+
+is-refused-requires : tie.Need-is-refused-requires
+is-refused-requires c κs = search needs
+
+returns : tie.Need-returns
+returns c =
+    let s = c .before .before .before .before .args .reader in
+    (goes-shut _ s (c .before .before .before .before .args .from) (c .before .before .before .before .pre .0, c .before .before .before .before .pre .1 .0) (not-true (isOpen (s .phase)) (sym (c .before .is-refused .ensures) ∙ c .if1 .taken)) (omega (arith, c .before .before .before .before .pre .1 .1)), c .before .before .before .before .pre .1 .1)
+
+whole-lines-requires : tie.Need-whole-lines-requires
+whole-lines-requires c κs = (ruled _ (c .before .before .before .before .before .before .pre .0) .before, omega (arith, c .before .before .before .before .before .before .pre .1 .1))
+
+between-lines-requires : tie.Need-between-lines-requires
+between-lines-requires c κs = search needs
+
+returns-2 : tie.Need-returns-2
+returns-2 c =
+    let s = c .before .before .before .before .before .before .before .before .before .before .before .args .reader in let o = not-false (isOpen (s .phase)) (sym (c .before .before .before .before .before .before .before .before .is-refused .ensures) ∙ c .before .before .before .before .before .before .before .if1 .left) in (
+      rw (c .between-lines .ensures)
+          (subst (λ (t : Reader). Goes (now (c .before .before .before .before .before .before .before .before .before .before .before .args .piece)) t (c .before .before .before .before .before .before .before .before .before .before .before .args .from) (between Open (c .before .before .before .before .whole-lines .result .counts)) (c .before .before .before .before .whole-lines .result .at))
+          (sym (open-between s (c .before .before .before .before .before .before .before .before .before .before .before .pre .0, c .before .before .before .before .before .before .before .before .before .before .before .pre .1 .0) o (c .before .before .before .before .before .if2 .taken))) (c .before .before .before .before .whole-lines .ensures)),
+      c .before .before .if3 .taken,
+    )
+
+shared-slice-read-open-step : tie.Need-shared-slice-read-open-step
+shared-slice-read-open-step c = search needs
+
+open-step-requires : tie.Need-open-step-requires
+open-step-requires c κs = search needs
+
+add-t17 : tie.Need-add-t17
+add-t17 c = search needs
+
+returns-3 : tie.Need-returns-3
+returns-3 c =
+    let s = c .before .before .before .before .before .before .before .before .args .reader in let o = not-false (isOpen (s .phase)) (sym (c .before .before .before .before .before .is-refused .ensures) ∙ c .before .before .before .before .if1 .left) in
+    (rw (c .open-step .ensures) (goes-byte _ s (c .before .before .before .before .before .before .before .before .args .from) (c .before .before .before .before .before .before .before .before .pre .0, c .before .before .before .before .before .before .before .before .pre .1 .0) o (c .before .before .before .before .before .before .before .before .pre .1 .1)), omega arith)
+
+pub take-turn-spec : {M : Type 1} → statement M
+take-turn-spec =
+    tie.close
+    (tie.spec
+    is-refused-requires
+    returns
+    whole-lines-requires
+    between-lines-requires
+    returns-2
+    shared-slice-read-open-step
+    open-step-requires
+    add-t17
+    returns-3)

@@ -1,0 +1,14 @@
+-- Document 01, "The log and its report": "Decimal without leading zeros". Assumes nothing.
+use Prim.Native.Nat.{ℕ, zero, suc, _+_, _/_, _%_}
+use mathlib.Core.Bool.{cond}
+use mathlib.Core.List.{List, [], _∷_, _++_}
+use lib.Dec.{ltb}
+
+-- the digits of a number that has at most `more` digits besides its last
+unfoldable pub spelled : ℕ → ℕ → List ℕ
+spelled zero n = (48 + n) ∷ []
+spelled (suc more) n = cond (ltb n 10) ((48 + n) ∷ []) (spelled more (n / 10) ++ ((48 + n % 10) ∷ []))
+
+-- a number of up to twenty digits, as every number of 64 bits is
+unfoldable pub decimal : ℕ → List ℕ
+decimal n = spelled 19 n

@@ -1,0 +1,4 @@
+pub mod Decimal
+pub mod Log
+pub mod Reader
+pub mod Machine

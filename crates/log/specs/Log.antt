@@ -1,0 +1,123 @@
+-- Document 01, "The log and its report": what a line is, what a log is, and what is counted. Assumes nothing.
+use Prim.Native.Nat.{ℕ, zero, suc, _+_, _-_, _*_}
+use mathlib.Core.Bool.{Bool, true, false, cond, not, _&&_, _||_}
+use mathlib.Core.List.{List, [], _∷_, _++_}
+use lib.ListN.{length, getD}
+use lib.Dec.{ltb, leb, eqb}
+use Rattle.band.specs.Band.{isChannel}
+use Rattle.log.specs.declared.Counts.{Counts}
+use Rattle.log.specs.declared.Judged.{Judged}
+use Rattle.log.specs.Decimal.{decimal}
+
+-- fields are parted by a tab, and each line is ended by a line feed
+abbrev pub tab : ℕ
+tab = 9
+
+abbrev pub lineFeed : ℕ
+lineFeed = 10
+
+-- `channel`
+abbrev pub channelWord : List ℕ
+channelWord = 99 ∷ 104 ∷ 97 ∷ 110 ∷ 110 ∷ 101 ∷ 108 ∷ []
+
+-- the first line, without its line feed: `channel` and a channel number
+unfoldable pub firstLine : ℕ → List ℕ
+firstLine channel = channelWord ++ (tab ∷ decimal channel)
+
+-- a slot's line: the slot number and an outcome
+unfoldable pub slotLine : ℕ → ℕ → List ℕ
+slotLine slot outcome = decimal slot ++ (tab ∷ outcome ∷ [])
+
+-- `0` to `8`, the corrected bits
+abbrev pub isCorrected : ℕ → Bool
+isCorrected outcome = leb 48 outcome && leb outcome 56
+
+-- or `n`, answer 2; `c`, answer 3; `-`, nothing received
+unfoldable pub isOutcome : ℕ → Bool
+isOutcome outcome = isCorrected outcome || eqb outcome 110 || eqb outcome 99 || eqb outcome 45
+
+-- the lines of the slots from this one on
+unfoldable pub slotLines : ℕ → List ℕ → List ℕ
+slotLines slot [] = []
+slotLines slot (outcome ∷ outcomes) = slotLine slot outcome ++ (lineFeed ∷ slotLines (slot + 1) outcomes)
+
+-- the log of a channel and its slots' outcomes, slot 1 first
+unfoldable pub logText : ℕ → List ℕ → List ℕ
+logText channel outcomes = firstLine channel ++ (lineFeed ∷ slotLines 1 outcomes)
+
+unfoldable pub allOutcomes : List ℕ → Bool
+allOutcomes [] = true
+allOutcomes (outcome ∷ outcomes) = isOutcome outcome && allOutcomes outcomes
+
+-- ---- counts
+
+abbrev pub one : Bool → ℕ
+one test = cond test 1 0
+
+-- one slot more: `read` counts outcomes 0 to 8 and `bits` adds them up, `clean` counts outcome 0 alone
+unfoldable pub counted : Counts → ℕ → Counts
+counted counts outcome =
+    record {
+      channel = counts .channel;
+      slots = counts .slots + 1;
+      read = counts .read + one (isCorrected outcome);
+      clean = counts .clean + one (eqb outcome 48);
+      bits = counts .bits + cond (isCorrected outcome) (outcome - 48) 0;
+      noword = counts .noword + one (eqb outcome 110);
+      check = counts .check + one (eqb outcome 99);
+      missing = counts .missing + one (eqb outcome 45);
+    }
+
+unfoldable pub countsFrom : Counts → List ℕ → Counts
+countsFrom counts [] = counts
+countsFrom counts (outcome ∷ outcomes) = countsFrom (counted counts outcome) outcomes
+
+-- before the first slot
+abbrev pub tuned : ℕ → Counts
+tuned channel = record { channel = channel; slots = 0; read = 0; clean = 0; bits = 0; noword = 0; check = 0; missing = 0 }
+
+-- The counts that some accepted log gives: the slots are at most 999,999, each slot has one outcome, clean ones are among those read,
+-- and each other that was read has 1 to 8 bits.
+unfoldable pub isSound : Counts → Bool
+isSound counts =
+    leb (counts .slots) 999999
+    && eqb (counts .slots) (counts .read + counts .noword + counts .check + counts .missing)
+    && leb (counts .clean) (counts .read)
+    && leb (counts .read - counts .clean) (counts .bits)
+    && leb (counts .bits) (8 * (counts .read - counts .clean))
+
+unfoldable pub isCounts : Counts → Bool
+isCounts counts = isChannel (counts .channel) && isSound counts
+
+-- ---- a line, judged
+
+-- the same bytes in the same order
+unfoldable pub same : List ℕ → List ℕ → Bool
+same [] [] = true
+same [] (b ∷ bs) = false
+same (a ∷ xs) [] = false
+same (a ∷ xs) (b ∷ bs) = eqb a b && same xs bs
+
+abbrev pub last : List ℕ → ℕ
+last line = getD line (length line - 1) 0
+
+-- the channel up to n whose first line this is, or 0
+unfoldable pub channelUpTo : ℕ → List ℕ → ℕ
+channelUpTo zero line = 0
+channelUpTo (suc n) line = cond (same line (firstLine (suc n))) (suc n) (channelUpTo n line)
+
+-- the line of the next slot, which is at most 999,999
+unfoldable pub isNext : ℕ → List ℕ → Bool
+isNext slots line = ltb slots 999999 && isOutcome (last line) && same line (slotLine (slots + 1) (last line))
+
+abbrev pub judgedFirst : ℕ → Judged
+judgedFirst channel = record { good = not (eqb channel 0); counts = tuned channel }
+
+abbrev pub judgedSlot : Bool → Counts → ℕ → Judged
+judgedSlot good counts outcome = record { good = good; counts = cond good (counted counts outcome) counts }
+
+-- the first line gives the channel; a bad line leaves the counts as before it
+unfoldable pub judged : Counts → List ℕ → Judged
+judged counts line =
+    cond (eqb (counts .channel) 0) (judgedFirst (channelUpTo 204 line))
+    (judgedSlot (isNext (counts .slots) line) counts (last line))

@@ -1,0 +1,104 @@
+// The counts of a log, and which of them some accepted log gives.
+ghost use mathlib.Core.Path.{_≡_};
+ghost use mathlib.Core.Bool.{true, cond};
+ghost use Prim.Native.Nat.{_-_, _≤_, _<_};
+ghost use Rattle.log.specs.Log.{isCorrected, one, counted, tuned, isSound, isCounts};
+use crate::Counts;
+use crate::GREATEST_SLOT;
+
+// Whether some accepted log gives these counts.
+pub fn is_counts(counts: Counts) -> bool
+    ensures { λ r. ⌜ r ≡ isCounts counts ⌝ }
+{
+    if band::is_channel(counts.channel as u32) {
+        return is_sound(counts);
+    }
+    false
+}
+
+// Whether the counts agree with each other.
+pub fn is_sound(counts: Counts) -> bool
+    ensures { λ r. ⌜ r ≡ isSound counts ⌝ }
+{
+    if GREATEST_SLOT < counts.slots {
+        return false;
+    }
+    let sum = wide(counts.read) + wide(counts.noword) + wide(counts.check) + wide(counts.missing);
+    if wide(counts.slots) != sum {
+        return false;
+    }
+    if counts.read < counts.clean {
+        return false;
+    }
+    let dirty = counts.read - counts.clean;
+    if counts.bits < dirty {
+        return false;
+    }
+    counts.bits <= 8 * dirty
+}
+
+fn wide(x: u32) -> u64
+    ensures { λ r. ⌜ r ≡ x ⌝ }
+{
+    x as u64
+}
+
+// The counts of a log with its first line only.
+pub fn tuned_to(channel: u8) -> Counts
+    ensures { λ r. ⌜ r ≡ tuned channel ⌝ }
+{
+    Counts {
+        channel,
+        slots: 0,
+        read: 0,
+        clean: 0,
+        bits: 0,
+        noword: 0,
+        check: 0,
+        missing: 0,
+    }
+}
+
+// The counts with one slot more.
+pub fn count_one(counts: Counts, outcome: u8) -> Counts
+    requires { ⌜ isSound counts ≡ true ⌝ }
+    requires { ⌜ counts .slots < 999999 ⌝ }
+    ensures { λ r. ⌜ r ≡ counted counts outcome ⌝ }
+{
+    Counts {
+        channel: counts.channel,
+        slots: counts.slots + 1,
+        read: counts.read + one_if(is_corrected(outcome)),
+        clean: counts.clean + one_if(outcome == b'0'),
+        bits: counts.bits + bits_of(outcome),
+        noword: counts.noword + one_if(outcome == b'n'),
+        check: counts.check + one_if(outcome == b'c'),
+        missing: counts.missing + one_if(outcome == b'-'),
+    }
+}
+
+pub fn is_corrected(outcome: u8) -> bool
+    ensures { λ r. ⌜ r ≡ isCorrected outcome ⌝ }
+{
+    if outcome < b'0' {
+        return false;
+    }
+    outcome <= b'8'
+}
+
+fn bits_of(outcome: u8) -> u32
+    ensures { λ r. ⌜ r ≡ cond (isCorrected outcome) (outcome - 48) 0 ⌝ }
+    ensures { λ r. ⌜ r ≤ 8 ⌝ }
+{
+    if is_corrected(outcome) {
+        return (outcome - b'0') as u32;
+    }
+    0
+}
+
+fn one_if(test: bool) -> u32
+    ensures { λ r. ⌜ r ≡ one test ⌝ }
+    ensures { λ r. ⌜ r ≤ 1 ⌝ }
+{
+    if test { 1 } else { 0 }
+}

@@ -1,0 +1,134 @@
+// A line of a log, without its line feed, is compared with the text that it must be, so no number is read that could be too great.
+ghost use mathlib.Core.Path.{_≡_};
+ghost use mathlib.Core.Bool.{true};
+ghost use Prim.Native.Nat.{_≤_};
+ghost use Rattle.log.specs.Decimal.{decimal};
+ghost use Rattle.log.specs.Log.{firstLine, channelUpTo, isOutcome, isNext, isSound, judged};
+ghost use Rattle.log.specs.Log.{same as Log·same};
+use crate::Counts;
+use crate::GREATEST_SLOT;
+use crate::Judged;
+use crate::count;
+
+const GREATEST_CHANNEL: u8 = 204;
+
+// Whether this is the line that comes after these counts, and the counts with it.
+pub fn judge(counts: Counts, line: &[u8]) -> Judged
+    requires { ⌜ isSound counts ≡ true ⌝ }
+    ensures { λ r. ⌜ r ≡ judged counts (now (line .entry)) ⌝ }
+{
+    if counts.channel == 0 {
+        let channel = channel_of(line);
+        return Judged {
+            good: channel != 0,
+            counts: count::tuned_to(channel),
+        };
+    }
+    if is_next(counts.slots, line) {
+        return Judged {
+            good: true,
+            counts: count::count_one(counts, line[line.len() - 1]),
+        };
+    }
+    Judged {
+        good: false,
+        counts,
+    }
+}
+
+// The channel whose first line this is, or 0. It is asked once a log, so each of them is tried.
+fn channel_of(line: &[u8]) -> u8
+    ensures { λ r. ⌜ r ≡ channelUpTo 204 (now (line .entry)) ⌝ }
+{
+    let mut channel = GREATEST_CHANNEL;
+    while channel > 0 {
+        if is_first(line, channel) {
+            return channel;
+        }
+        channel -= 1;
+    }
+    0
+}
+
+// Whether this is `channel`, a tab and the channel's number.
+fn is_first(line: &[u8], channel: u8) -> bool
+    ensures { λ r. ⌜ r ≡ Log·same (now (line .entry)) (firstLine channel) ⌝ }
+{
+    if line.len() < 8 {
+        return false;
+    }
+    if same(&line[..8], b"channel\t") {
+        return spells(&line[8..], channel as u32);
+    }
+    false
+}
+
+// Whether this is the line of the slot after these: its number, a tab and an outcome.
+fn is_next(slots: u32, line: &[u8]) -> bool
+    ensures { λ r. ⌜ r ≡ isNext slots (now (line .entry)) ⌝ }
+{
+    if GREATEST_SLOT <= slots {
+        return false;
+    }
+    if line.len() < 2 {
+        return false;
+    }
+    let at = line.len() - 2;
+    if line[at] != b'\t' {
+        return false;
+    }
+    if is_outcome(line[at + 1]) {
+        return spells(&line[..at], slots + 1);
+    }
+    false
+}
+
+// `0` to `8`, `n`, `c` or `-`.
+fn is_outcome(outcome: u8) -> bool
+    ensures { λ r. ⌜ r ≡ isOutcome outcome ⌝ }
+{
+    match outcome {
+        b'n' => true,
+        b'c' => true,
+        b'-' => true,
+        _ => count::is_corrected(outcome),
+    }
+}
+
+// Whether the text is the number in decimal, compared from the last digit on.
+fn spells(text: &[u8], number: u32) -> bool
+    ensures { λ r. ⌜ r ≡ Log·same (now (text .entry)) (decimal number) ⌝ }
+{
+    let mut rest = number;
+    let mut i = text.len();
+    while rest >= 10 {
+        if i == 0 {
+            return false;
+        }
+        i -= 1;
+        if text[i] != 48 + (rest % 10) as u8 {
+            return false;
+        }
+        rest /= 10;
+    }
+    if i != 1 {
+        return false;
+    }
+    text[i - 1] == 48 + rest as u8
+}
+
+pub fn same(a: &[u8], b: &[u8]) -> bool
+    ensures { λ r. ⌜ r ≡ Log·same (now (a .entry)) (now (b .entry)) ⌝ }
+{
+    if a.len() != b.len() {
+        return false;
+    }
+    let mut i = 0;
+    while i < a.len() {
+        if a[i] != b[i] {
+            return false;
+        }
+        i += 1;
+    }
+    true
+}

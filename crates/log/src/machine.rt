@@ -1,0 +1,172 @@
+// The machine over bytes. It holds a line that is cut; a line that lies whole in the piece is judged where it stands.
+ghost use mathlib.Core.Path.{_≡_};
+ghost use mathlib.Core.Bool.{true, not};
+ghost use Prim.Native.Nat.{_≤_, _<_};
+ghost use lib.ListN.{length};
+ghost use Rattle.log.specs.Reader.{between, afterLine, openStep, isOpen, isBefore, isReader};
+ghost use Rattle.log.specs.Machine.{Goes, EndsAt};
+ghost use Rattle.log.specs.Reader.{run as Reader·run};
+use crate::Counts;
+use crate::Judged;
+use crate::Phase;
+use crate::Reader;
+use crate::line;
+
+// The longest line, without its line feed.
+const LONGEST_LINE: usize = 63;
+
+// The reader after a part of a piece, and where the rest starts.
+struct Turn {
+    reader: Reader,
+    at: usize,
+}
+
+// The counts after some whole lines, and where the next line starts.
+struct Lines {
+    counts: Counts,
+    at: usize,
+}
+
+pub fn between_lines(phase: Phase, counts: Counts) -> Reader
+    ensures { λ r. ⌜ r ≡ between phase counts ⌝ }
+{
+    Reader {
+        phase,
+        counts,
+        held: [0; 63],
+        length: 0,
+    }
+}
+
+// The reader after some bytes more.
+pub fn run(reader: Reader, piece: &[u8]) -> Reader
+    requires { ⌜ isReader reader ≡ true ⌝ }
+    ensures { λ r. ⌜ r ≡ Reader·run reader (now (piece .entry)) ⌝ }
+{
+    let mut now = reader;
+    let mut at = 0;
+    while at < piece.len() {
+        let turn = take_turn(now, piece, at);
+        let next = turn.reader;
+        now = next;
+        at = turn.at;
+    }
+    now
+}
+
+// Takes whole lines where one starts, or else a byte. After a refusal the rest of the piece plays no part.
+fn take_turn(reader: Reader, piece: &[u8], from: usize) -> Turn
+    requires { ⌜ isReader reader ≡ true ⌝ }
+    requires { ⌜ length (reader .held) ≡ 63 ⌝ }
+    requires { ⌜ from < length (now piece) ⌝ }
+    ensures { λ r. ⌜ Goes (now (piece .entry)) reader from (r .reader) (r .at) ⌝ }
+    ensures { λ r. ⌜ from < r .at ⌝ }
+{
+    let counts = reader.counts;
+    let phase = reader.phase;
+    if is_refused(phase) {
+        return Turn {
+            reader,
+            at: piece.len(),
+        };
+    }
+    if reader.length == 0 {
+        let lines = whole_lines(counts, piece, from);
+        if from < lines.at {
+            let good = lines.counts;
+            return Turn {
+                reader: between_lines(Phase::Open, good),
+                at: lines.at,
+            };
+        }
+    }
+    Turn {
+        reader: open_step(reader, piece[from]),
+        at: from + 1,
+    }
+}
+
+fn is_refused(phase: Phase) -> bool
+    ensures { λ r. ⌜ r ≡ not (isOpen phase) ⌝ }
+{
+    match phase {
+        Phase::Open => false,
+        Phase::Refused => true,
+        Phase::Ended => true,
+    }
+}
+
+// Takes the good lines that stand whole in the piece from here on.
+fn whole_lines(counts: Counts, piece: &[u8], from: usize) -> Lines
+    requires { ⌜ isBefore counts ≡ true ⌝ }
+    requires { ⌜ from ≤ length (now piece) ⌝ }
+    ensures { λ r. ⌜ Goes (now (piece .entry)) (between (Phase.Open) counts) from (between (Phase.Open) (r .counts)) (r .at) ⌝ }
+{
+    let mut so_far = counts;
+    let mut at = from;
+    while at < piece.len() {
+        let end = line_end(piece, at);
+        if end == piece.len() {
+            return Lines { counts: so_far, at };
+        }
+        if LONGEST_LINE < end - at {
+            return Lines { counts: so_far, at };
+        }
+        let judged = line::judge(so_far, &piece[at..end]);
+        if !judged.good {
+            return Lines { counts: so_far, at };
+        }
+        let next = judged.counts;
+        so_far = next;
+        at = end + 1;
+    }
+    Lines { counts: so_far, at }
+}
+
+// Where the line that starts here ends, or the piece.
+pub fn line_end(piece: &[u8], from: usize) -> usize
+    requires { ⌜ from ≤ length (now piece) ⌝ }
+    ensures { λ r. ⌜ EndsAt (now (piece .entry)) from r ⌝ }
+{
+    let mut i = from;
+    while i < piece.len() {
+        if piece[i] == b'\n' {
+            return i;
+        }
+        i += 1;
+    }
+    i
+}
+
+fn open_step(reader: Reader, byte: u8) -> Reader
+    requires { ⌜ isReader reader ≡ true ⌝ }
+    ensures { λ r. ⌜ r ≡ openStep reader byte ⌝ }
+{
+    let counts = reader.counts;
+    let held = reader.held;
+    let at = reader.length;
+    if byte == b'\n' {
+        return after_line(line::judge(counts, &held[..at]));
+    }
+    if at < LONGEST_LINE {
+        let mut more = held;
+        more[at] = byte;
+        return Reader {
+            phase: Phase::Open,
+            counts,
+            held: more,
+            length: at + 1,
+        };
+    }
+    between_lines(Phase::Refused, counts)
+}
+
+fn after_line(judged: Judged) -> Reader
+    ensures { λ r. ⌜ r ≡ afterLine judged ⌝ }
+{
+    let counts = judged.counts;
+    if judged.good {
+        return between_lines(Phase::Open, counts);
+    }
+    between_lines(Phase::Refused, counts)
+}

@@ -1,0 +1,62 @@
+// The rule of a reader that is handed in: whether it takes a piece or the end.
+ghost use mathlib.Core.Path.{_≡_};
+ghost use Prim.Native.Nat.{_≤_};
+ghost use lib.ListN.{length};
+ghost use Rattle.log.specs.Reader.{isHolding, isHeld, isBefore, isReader};
+use crate::Counts;
+use crate::Phase;
+use crate::Reader;
+use crate::count;
+use crate::line;
+use crate::machine;
+
+pub fn is_reader(reader: Reader) -> bool
+    ensures { λ r. ⌜ r ≡ isReader reader ⌝ }
+{
+    let phase = reader.phase;
+    let counts = reader.counts;
+    let held = reader.held;
+    let length = reader.length;
+    if is_holding(phase, length) {
+        if is_held(&held, length) {
+            return is_before(counts);
+        }
+    }
+    false
+}
+
+fn is_holding(phase: Phase, length: usize) -> bool
+    ensures { λ r. ⌜ r ≡ isHolding phase length ⌝ }
+{
+    match phase {
+        Phase::Open => length <= 63,
+        Phase::Refused => length == 0,
+        Phase::Ended => false,
+    }
+}
+
+// Whether no line feed is among the bytes held, and zeros follow them.
+fn is_held(held: &[u8], count: usize) -> bool
+    requires { ⌜ length (now held) ≡ 63 ⌝ }
+    requires { ⌜ count ≤ 63 ⌝ }
+    ensures { λ r. ⌜ r ≡ isHeld (now (held .entry)) count ⌝ }
+{
+    let zeros = [0u8; 63];
+    if machine::line_end(&held[..count], 0) == count {
+        return line::same(&held[count..], &zeros[count..]);
+    }
+    false
+}
+
+// Whether these are the counts before some line.
+fn is_before(counts: Counts) -> bool
+    ensures { λ r. ⌜ r ≡ isBefore counts ⌝ }
+{
+    if count::is_sound(counts) {
+        if counts.channel == 0 {
+            return counts.slots == 0;
+        }
+        return band::is_channel(counts.channel as u32);
+    }
+    false
+}

@@ -1,0 +1,10 @@
+pub mod Texts
+pub mod Fits
+pub mod Quotient
+pub mod Expansion
+pub mod Decode
+pub mod Limbs
+pub mod Same
+pub mod Exactly
+pub mod Denotes
+pub mod Determined

@@ -1,0 +1,90 @@
+-- Laws of a text that is built and delivered. Assumes nothing.
+use Prim.Native.Nat.{ℕ, suc, zero, _+_, _<_, _≤_, min}
+use mathlib.Core.Path.{_≡_, refl, ap, sym, _∙_}
+use mathlib.Core.List.{List, [], _∷_, _++_, append-assoc, append-nil}
+use native.Mathlib.Numerals.{add-one}
+use native.Mathlib.Omega.{arith}
+use lib.ListN.{length, getD, take, drop, set, length-take, length-append}
+use lib.Seq.{take-all, drop-cons, set-at, take-suc, take-suc-set, take-append-le, length-take-le}
+use native.Mathlib.Nat.{min-eq-left, min-eq-right}
+use lib.Dec.{leb}
+use borrow.Author.Tests.{leb-true, leb-false}
+use Rattle.log.proofs.Lists.{by-cases}
+use Rattle.summary.specs.declared.text.Text.{Text}
+use Rattle.summary.specs.Building.{content, Grows}
+
+grow-take : (n : ℕ) (a b : List ℕ) → take n (take n a ++ b) ≡ take n (a ++ b)
+grow-take zero a b = refl
+grow-take (suc n) [] b = refl
+grow-take (suc n) (x ∷ a) b = ap (λ (l : List ℕ). x ∷ l) (grow-take n a b)
+
+-- one part after the other
+pub grows-then : {t u v : Text} {a b : List ℕ} → Grows t a u → Grows u b v → Grows t (a ++ b) v
+grows-then {t} {u} {v} {a} {b} g h =
+    record {
+      text = h .text ∙ ap (λ (l : List ℕ). take 384 (l ++ b)) (g .text) ∙ grow-take 384 (content t ++ a) b
+          ∙ ap (take 384) (append-assoc (content t) a b);
+    }
+
+pub grows-same : {t u : Text} {a b : List ℕ} → a ≡ b → Grows t a u → Grows t b u
+grows-same {t} e g = record { text = g .text ∙ ap (λ (l : List ℕ). take 384 (content t ++ l)) e }
+
+pub content-fits : (t : Text) → length (t .bytes) ≡ 384 → length (content t) ≤ 384
+content-fits t f = omega (arith, length-take (t .length) (t .bytes), f)
+
+pub grows-empty : (t : Text) → length (content t) ≤ 384 → Grows t [] t
+grows-empty t f = record { text = sym (ap (take 384) (append-nil (content t)) ∙ take-all 384 (content t) f) }
+
+pub grows-none : (t : Text) → length (t .bytes) ≡ 384 → Grows t [] t
+grows-none t f = grows-empty t (content-fits t f)
+
+-- a byte where there is room, and one where there is none
+pub grows-byte : (t r : Text) (b : ℕ) → length (t .bytes) ≡ 384 → t .length < 384 → r .bytes ≡ set (t .bytes) (t .length) b → r .length ≡ t .length + 1
+    → Grows t (b ∷ []) r
+grows-byte t r b f h e n =
+    let l : length (content t ++ (b ∷ [])) ≤ 384 = omega (arith, length-append (content t) (b ∷ []), length-take-le (t .length) (t .bytes) (omega (arith, f))) in
+    record {
+      text = ap (λ (k : ℕ). take k (r .bytes)) (n ∙ add-one (t .length)) ∙ ap (take (suc (t .length))) e
+          ∙ take-suc-set (t .bytes) (t .length) b (omega (arith, f)) ∙ sym (take-all 384 (content t ++ (b ∷ [])) l);
+    }
+
+pub grows-full : (t : Text) (b : ℕ) → length (t .bytes) ≡ 384 → 384 ≤ t .length → Grows t (b ∷ []) t
+grows-full t b f h =
+    let e : content t ≡ t .bytes = take-all (t .length) (t .bytes) (omega (arith, f)) in
+    let l : length (content t) ≡ 384 = ap length e ∙ f in
+    record { text = sym (take-append-le 384 (content t) (b ∷ []) (omega arith) ∙ take-all 384 (content t) (omega arith)) }
+
+-- one byte more of a part
+pub grows-next : {t u v : Text} (s : List ℕ) (i : ℕ) → i < length s → Grows t (take i s) u → Grows u (getD s i 0 ∷ []) v → Grows t (take (i + 1) s) v
+grows-next s i h g k = grows-same (sym (ap (λ (j : ℕ). take j s) (add-one i) ∙ take-suc s i 0 h)) (grows-then g k)
+
+pub grows-all : {t u : Text} (s : List ℕ) (i : ℕ) → length s ≤ i → Grows t (take i s) u → Grows t s u
+grows-all s i h g = grows-same (take-all i s h) g
+
+-- the whole text, where it fits
+pub grows-whole : {t u : Text} {s : List ℕ} → content t ≡ [] → length s ≤ 384 → Grows t s u → content u ≡ s
+grows-whole {t} {u} {s} e h g = g .text ∙ ap (λ (l : List ℕ). take 384 (l ++ s)) e ∙ take-all 384 s h
+
+-- what a copy has done
+pub copied-next : (s d o : List ℕ) (i : ℕ) → i < length s → i < length d → o ≡ take i s ++ drop i d
+    → set o i (getD s i 0) ≡ take (i + 1) s ++ drop (i + 1) d
+copied-next s d o i h k e =
+    let n : length (take i s) ≡ i = length-take-le i s (omega arith) in
+    ap (λ (l : List ℕ). set l i (getD s i 0)) (e ∙ ap (λ (l : List ℕ). take i s ++ l) (drop-cons d i 0 k))
+    ∙ set-at (take i s) (getD d i 0) (drop (suc i) d) (getD s i 0) i n
+    ∙ sym (append-assoc (take i s) (getD s i 0 ∷ []) (drop (suc i) d))
+    ∙ ap (λ (l : List ℕ). l ++ drop (suc i) d) (sym (take-suc s i 0 h))
+    ∙ ap (λ (j : ℕ). take j s ++ drop j d) (sym (add-one i))
+
+take-least : (n : ℕ) (l : List ℕ) (m : ℕ) → length l ≤ m → take (min n m) l ≡ take n l
+take-least n l m h =
+    by-cases _ (leb n m) (λ e. ap (λ (j : ℕ). take j l) (min-eq-left (leb-true n m e)))
+    (λ e.
+    let k = leb-false n m e in
+    ap (λ (j : ℕ). take j l) (min-eq-right {n = m} {m = n} (omega arith)) ∙ take-all m l h ∙ sym (take-all n l (omega arith)))
+
+-- the text that a copy delivers
+pub content-least : (t : Text) → length (t .bytes) ≡ 384 → (take (min (t .length) 384) (t .bytes) ≡ content t) × (length (content t) ≡ min (t .length) 384)
+content-least t f =
+    let l : length (content t) ≡ min (t .length) 384 = length-take (t .length) (t .bytes) ∙ ap (min (t .length)) f in
+    (take-least (t .length) (t .bytes) 384 (omega (arith, f)), l)

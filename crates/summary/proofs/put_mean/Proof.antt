@@ -1,0 +1,59 @@
+use Rattle.summary.proofs.Texts.{grows-then}
+use Rattle.summary.specs.Report.{line, thousandths}
+use borrow.Author.Tests.{eq-eqb, ne-eqb}
+use borrow.Author.Needs.{needs}
+use Rattle.summary.proofs.put_mean.Statement.{statement}
+use Rattle.summary.proofs.put_mean.Tie as tie
+
+slice-aggregate-put : tie.Need-slice-aggregate-put
+slice-aggregate-put c = search needs
+
+put-requires : tie.Need-put-requires
+put-requires c κs = search needs
+
+put-byte-requires : tie.Need-put-byte-requires
+put-byte-requires c κs = search needs
+
+slice-aggregate-put-2 : tie.Need-slice-aggregate-put-2
+slice-aggregate-put-2 c = search needs
+
+put-requires-2 : tie.Need-put-requires-2
+put-requires-2 c κs = search needs
+
+returns : tie.Need-returns
+unfolding line thousandths
+returns c = rw (eq-eqb (c .before .before .before .before .before .before .args .read) 0 (c .before .before .if1 .taken)) (grows-then (grows-then (c .before .before .before .before .put .ensures) (c .before .before .before .put-byte .ensures)) (c .put2 .ensures))
+
+mul-thousandths : tie.Need-mul-thousandths
+mul-thousandths c = search needs
+
+div-thousandths : tie.Need-div-thousandths
+div-thousandths c = search needs
+
+put-number-requires : tie.Need-put-number-requires
+put-number-requires c κs = search needs
+
+put-byte-requires-2 : tie.Need-put-byte-requires-2
+put-byte-requires-2 c κs = search needs
+
+returns-2 : tie.Need-returns-2
+unfolding line thousandths
+returns-2 c =
+    rw (ne-eqb (c .before .before .before .before .before .before .args .read) 0 (c .before .before .if1 .left))
+    (grows-then (grows-then (c .before .before .before .before .put .ensures) (c .before .before .before .put-byte .ensures)) (grows-then (c .before .put-number .ensures) (c .put-byte2 .ensures)))
+
+pub put-mean-spec : {M : Type 1} → statement M
+put-mean-spec =
+    tie.close
+    (tie.spec
+    slice-aggregate-put
+    put-requires
+    put-byte-requires
+    slice-aggregate-put-2
+    put-requires-2
+    returns
+    mul-thousandths
+    div-thousandths
+    put-number-requires
+    put-byte-requires-2
+    returns-2)

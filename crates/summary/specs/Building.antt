@@ -1,0 +1,36 @@
+-- What the private functions of src/text.rt owe: a text is built byte by byte, and what is past its room is left off. No public
+-- promise cites this file. Assumes nothing.
+use Prim.Native.Nat.{ℕ, _-_, _*_, _^_, _<_, _≤_}
+use mathlib.Core.Path.{_≡_}
+use mathlib.Core.List.{List, _++_}
+use mathlib.Core.Bool.{false}
+use mathlib.Core.Logic.{_⊎_}
+use lib.Dec.{T}
+use lib.Ieee.{Float, binary64, fits}
+use lib.Ieee.Exact.{HasValue}
+use lib.Ieee.Positive.{num, den}
+use lib.ListN.{take}
+use Rattle.summary.specs.declared.text.Text.{Text}
+
+abbrev pub content : Text → List ℕ
+content t = take (t .length) (t .bytes)
+
+-- the text t with more bytes, as far as there is room
+pub record Grows (t : Text) (more : List ℕ) (r : Text) : Type 0 where
+  pub text : content r ≡ take 384 (content t ++ more)
+
+-- what is known of a number that a cell shows
+pub record Measured (x : Float) : Type 0 where
+  pub holds : T (fits binary64 x)
+  pub value : HasValue x false (num x) (den x)
+  pub most : num x ≤ 8 * den x
+  pub least : (num x ≡ 0) ⊎ (den x ≤ num x * 2 ^ 20)
+
+-- digits * 2 ^ (field - 1075), in units of 2 ^ -72
+abbrev pub scaled : ℕ → ℕ → ℕ
+scaled field digits = digits * 2 ^ (field - 1003)
+
+pub record Scaled (field digits : ℕ) : Type 0 where
+  pub least : 1003 ≤ field
+  pub most : field ≤ 1026
+  pub small : digits < 2 ^ 53

@@ -1,0 +1,4 @@
+pub mod Summary
+pub mod Report
+pub mod Export
+pub mod Building

@@ -1,0 +1,64 @@
+-- Document 01, "The log and its report": the report's nine lines. Assumes nothing.
+use Prim.Native.Nat.{ℕ, _*_, _/_}
+use mathlib.Core.Bool.{cond}
+use mathlib.Core.List.{List, [], _∷_, _++_}
+use lib.ListN.{length, drop}
+use lib.Dec.{leb, eqb}
+use Rattle.answers.specs.Numbers.{Paper, accepted, refused, paper}
+use Rattle.band.specs.Band.{kilohertzOf}
+use Rattle.log.specs.declared.Counts.{Counts}
+use Rattle.log.specs.Decimal.{decimal}
+use Rattle.log.specs.Log.{tab, lineFeed, isCounts}
+use Rattle.summary.specs.declared.Written.{Written}
+
+-- a text and the mark that ends it
+abbrev pub ended : List ℕ → ℕ → List ℕ
+ended text mark = text ++ (mark ∷ [])
+
+-- a line of the report: a name and a value
+unfoldable pub line : List ℕ → List ℕ → List ℕ
+line name value = ended name tab ++ ended value lineFeed
+
+-- the channel's kilohertz
+abbrev pub frequency : Counts → ℕ
+frequency counts = kilohertzOf (record { 0 = counts .channel }) .number
+
+-- 1000 x bits / read rounded down, or `-` where read is 0
+unfoldable pub thousandths : ℕ → ℕ → List ℕ
+thousandths bits read = cond (eqb read 0) (45 ∷ []) (decimal (1000 * bits / read))
+
+-- `khz`, `slots`, `read`, `clean`, `bits`, `noword`, `check`, `missing`, `mean`
+unfoldable pub reportOf : Counts → List ℕ
+reportOf counts =
+    line (107 ∷ 104 ∷ 122 ∷ []) (decimal (frequency counts))
+    ++ (line (115 ∷ 108 ∷ 111 ∷ 116 ∷ 115 ∷ []) (decimal (counts .slots))
+    ++ (line (114 ∷ 101 ∷ 97 ∷ 100 ∷ []) (decimal (counts .read))
+    ++ (line (99 ∷ 108 ∷ 101 ∷ 97 ∷ 110 ∷ []) (decimal (counts .clean))
+    ++ (line (98 ∷ 105 ∷ 116 ∷ 115 ∷ []) (decimal (counts .bits))
+    ++ (line (110 ∷ 111 ∷ 119 ∷ 111 ∷ 114 ∷ 100 ∷ []) (decimal (counts .noword))
+    ++ (line (99 ∷ 104 ∷ 101 ∷ 99 ∷ 107 ∷ []) (decimal (counts .check))
+    ++ (line (109 ∷ 105 ∷ 115 ∷ 115 ∷ 105 ∷ 110 ∷ 103 ∷ []) (decimal (counts .missing))
+    ++ line (109 ∷ 101 ∷ 97 ∷ 110 ∷ []) (thousandths (counts .bits) (counts .read)))))))))
+
+-- What is told of a text that was asked for: the paper's answer, the text's length, and the lent output as it is left.
+pub record Told : Type 0 where
+  pub answer : Paper
+  pub length : ℕ
+  pub out : List ℕ
+
+abbrev pub told : Written → List ℕ → Told
+told r out = record { answer = paper (r .answer); length = r .length; out = out }
+
+-- a refusal leaves the output as before
+abbrev pub notWritten : ℕ → List ℕ → Told
+notWritten number out = record { answer = refused number; length = 0; out = out }
+
+-- the text stands at the start of the output, and the bytes after it stay; 10 for an output that is shorter
+abbrev pub written : List ℕ → List ℕ → Told
+written text out =
+    cond (leb (length text) (length out)) (record { answer = accepted; length = length text; out = text ++ drop (length text) out })
+    (notWritten 10 out)
+
+-- 11 for counts that no accepted log gives
+unfoldable pub reportedOf : Counts → List ℕ → Told
+reportedOf counts out = cond (isCounts counts) (written (reportOf counts) out) (notWritten 11 out)

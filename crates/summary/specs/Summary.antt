@@ -1,0 +1,50 @@
+-- Document 01, "The log and its report": the summary record, for the spreadsheet. Assumes nothing.
+use Prim.Native.Nat.{ℕ}
+use mathlib.Core.Bool.{false, cond, not}
+use lib.Dec.{eqb}
+use lib.IntN.{pos}
+use lib.Ieee.{Float, binary64, ofInt, ofBits, div}
+use Rattle.answers.specs.Numbers.{Paper, accepted, refused, paper}
+use Rattle.log.specs.declared.Counts.{Counts}
+use Rattle.log.specs.Log.{isCounts}
+use Rattle.summary.specs.declared.Summary.{Summary}
+use Rattle.summary.specs.declared.Summarised.{Summarised}
+
+-- all 64 bits are 0
+abbrev pub positiveZero : Float
+positiveZero = ofBits binary64 0
+
+-- one division of two whole numbers turned into binary64
+abbrev pub quotient : ℕ → ℕ → Float
+quotient a b = div binary64 (ofInt binary64 (pos a)) (ofInt binary64 (pos b))
+
+-- with a clear flag the number is positive zero
+abbrev pub share : ℕ → ℕ → Float
+share a b = cond (eqb b 0) positiveZero (quotient a b)
+
+-- the mean is bits by read, the missing share missing by slots
+unfoldable pub summaryOf : Counts → Summary
+summaryOf counts =
+    record {
+      «mean_exists» = not (eqb (counts .read) 0);
+      mean = share (counts .bits) (counts .read);
+      «missing_exists» = not (eqb (counts .slots) 0);
+      missing = share (counts .missing) (counts .slots);
+    }
+
+-- both flags clear
+abbrev pub noSummary : Summary
+noSummary = record { «mean_exists» = false; mean = positiveZero; «missing_exists» = false; missing = positiveZero }
+
+-- What is told of a summary: the paper's answer, and the record.
+pub record Told : Type 0 where
+  pub answer : Paper
+  pub summary : Summary
+
+abbrev pub told : Summarised → Told
+told r = record { answer = paper (r .answer); summary = r .summary }
+
+-- counts that no accepted log gives are 11
+unfoldable pub summarisedOf : Counts → Told
+summarisedOf counts =
+    cond (isCounts counts) (record { answer = accepted; summary = summaryOf counts }) (record { answer = refused 11; summary = noSummary })

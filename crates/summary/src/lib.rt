@@ -1,0 +1,191 @@
+// The summary of a log's counts: the record for the spreadsheet, the report's text and the spreadsheet's row (document 01, "The log and
+// its report").
+mod binary;
+mod text;
+
+ghost use mathlib.Core.Path.{_≡_};
+ghost use mathlib.Core.Bool.{true, Bool·beq};
+ghost use mathlib.Core.List.{[], _∷_};
+ghost use Rattle.band.specs.Band.{kilohertzOf};
+ghost use Rattle.summary.specs.Summary.{told, summaryOf, summarisedOf};
+ghost use Rattle.summary.specs.Summary.{share as Summary·share};
+ghost use Rattle.summary.specs.Report.{told as Report·told, line, thousandths, reportOf, reportedOf};
+ghost use Rattle.summary.specs.Export.{rowOf, isSummary, exportedOf};
+ghost use Rattle.summary.specs.Building.{content, Grows};
+ghost use Rattle.log.specs.Log.{isCounts};
+use answers::Answer;
+use answers::Refusal;
+use band::Channel;
+use log::Counts;
+use text::Text;
+
+// The mean of corrected bits over the blocks that were read, and the share of the slots in which nothing was received, each beside
+// the flag that says whether it exists. With a clear flag the number is positive zero.
+pub struct Summary {
+    pub mean_exists: bool,
+    pub mean: f64,
+    pub missing_exists: bool,
+    pub missing: f64,
+}
+
+pub struct Summarised {
+    pub answer: Answer,
+    pub summary: Summary,
+}
+
+// Whether a text was written, and its length.
+pub struct Written {
+    pub answer: Answer,
+    pub length: usize,
+}
+
+// The summary record of some counts. Refused: 11 for counts that no accepted log gives, both flags clear.
+pub fn summarise(counts: Counts) -> Summarised
+    ensures { λ r. ⌜ told r ≡ summarisedOf counts ⌝ }
+{
+    if log::is_counts(counts) {
+        return Summarised {
+            answer: Answer::Accepted,
+            summary: summary_of(counts),
+        };
+    }
+    Summarised {
+        answer: Answer::Refused(Refusal::OutsideRule),
+        summary: Summary {
+            mean_exists: false,
+            mean: 0.0,
+            missing_exists: false,
+            missing: 0.0,
+        },
+    }
+}
+
+fn summary_of(counts: Counts) -> Summary
+    ensures { λ r. ⌜ r ≡ summaryOf counts ⌝ }
+{
+    Summary {
+        mean_exists: counts.read != 0,
+        mean: share(counts.bits, counts.read),
+        missing_exists: counts.slots != 0,
+        missing: share(counts.missing, counts.slots),
+    }
+}
+
+// A count is below 2^32, so it turns into a binary64 without loss.
+fn share(part: u32, whole: u32) -> f64
+    ensures { λ r. ⌜ r ≡ Summary·share part whole ⌝ }
+{
+    if whole == 0 {
+        return 0.0;
+    }
+    (part as f64) / (whole as f64)
+}
+
+// Writes the report of some counts to the start of `out`. Refused, with `out` as before: 11 for counts that no accepted log gives, 10
+// for an output that is shorter than the text.
+pub fn report(counts: Counts, out: &mut [u8]) -> Written
+    ensures { λ r. ⌜ Report·told r (now (out .exit)) ≡ reportedOf counts (now (out .entry)) ⌝ }
+{
+    if log::is_counts(counts) {
+        return text::deliver(report_text(counts), out);
+    }
+    Written {
+        answer: Answer::Refused(Refusal::OutsideRule),
+        length: 0,
+    }
+}
+
+// Writes the row of some counts and their summary to the start of `out`: channel, kilohertz, the seven counts, the mean and the missing
+// share, parted by tabs and ended by a line feed. What does not exist is an empty cell. Refused, with `out` as before: 11 for counts
+// that no accepted log gives and for a record that is not bit for bit their summary, 10 for an output that is shorter than the row.
+pub fn export(counts: Counts, summary: Summary, out: &mut [u8]) -> Written
+    ensures { λ r. ⌜ Report·told r (now (out .exit)) ≡ exportedOf counts summary (now (out .entry)) ⌝ }
+{
+    if log::is_counts(counts) {
+        if is_summary(summary, counts) {
+            return text::deliver(row_text(counts, summary), out);
+        }
+    }
+    Written {
+        answer: Answer::Refused(Refusal::OutsideRule),
+        length: 0,
+    }
+}
+
+fn report_text(counts: Counts) -> Text
+    ensures { λ r. ⌜ content r ≡ reportOf counts ⌝ }
+{
+    let khz = text::put_line(text::empty(), b"khz", frequency(counts.channel));
+    let slots = text::put_line(khz, b"slots", counts.slots);
+    let read = text::put_line(slots, b"read", counts.read);
+    let clean = text::put_line(read, b"clean", counts.clean);
+    let bits = text::put_line(clean, b"bits", counts.bits);
+    let noword = text::put_line(bits, b"noword", counts.noword);
+    let check = text::put_line(noword, b"check", counts.check);
+    let missing = text::put_line(check, b"missing", counts.missing);
+    put_mean(missing, counts.bits, counts.read)
+}
+
+fn frequency(channel: u8) -> u32
+    ensures { λ r. ⌜ r ≡ kilohertzOf (record { 0 = channel }) .number ⌝ }
+{
+    let found = band::to_kilohertz(Channel(channel));
+    found.kilohertz.0
+}
+
+fn put_mean(text: Text, bits: u32, read: u32) -> Text
+    ensures { λ r. ⌜ Grows text (line (109 ∷ 101 ∷ 97 ∷ 110 ∷ []) (thousandths bits read)) r ⌝ }
+{
+    let named = text::put_byte(text::put(text, b"mean"), b'\t');
+    if read == 0 {
+        return text::put(named, b"-\n");
+    }
+    let thousandths = 1000 * (bits as u64) / (read as u64);
+    text::put_byte(text::put_number(named, thousandths), b'\n')
+}
+
+// Whether the record is the summary of the counts, bit for bit.
+fn is_summary(given: Summary, counts: Counts) -> bool
+    requires { ⌜ isCounts counts ≡ true ⌝ }
+    ensures { λ r. ⌜ r ≡ isSummary given (summaryOf counts) ⌝ }
+{
+    let own = summary_of(counts);
+    if alike(given.mean_exists, own.mean_exists) {
+        if binary::same_bits(given.mean, own.mean) {
+            if alike(given.missing_exists, own.missing_exists) {
+                return binary::same_bits(given.missing, own.missing);
+            }
+        }
+    }
+    false
+}
+
+fn alike(a: bool, b: bool) -> bool
+    ensures { λ r. ⌜ r ≡ Bool·beq a b ⌝ }
+{
+    if a { b } else { !b }
+}
+
+fn row_text(counts: Counts, summary: Summary) -> Text
+    requires { ⌜ isCounts counts ≡ true ⌝ }
+    requires { ⌜ summary ≡ summaryOf counts ⌝ }
+    ensures { λ r. ⌜ content r ≡ rowOf counts summary ⌝ }
+{
+    let channel = text::put_field(text::empty(), counts.channel as u32, b'\t');
+    let khz = text::put_field(channel, frequency(counts.channel), b'\t');
+    let slots = text::put_field(khz, counts.slots, b'\t');
+    let read = text::put_field(slots, counts.read, b'\t');
+    let clean = text::put_field(read, counts.clean, b'\t');
+    let bits = text::put_field(clean, counts.bits, b'\t');
+    let noword = text::put_field(bits, counts.noword, b'\t');
+    let check = text::put_field(noword, counts.check, b'\t');
+    let missing = text::put_field(check, counts.missing, b'\t');
+    let mean = text::put_byte(
+        binary::put_cell(missing, summary.mean_exists, summary.mean),
+        b'\t',
+    );
+    text::put_byte(
+        binary::put_cell(mean, summary.missing_exists, summary.missing),
+        b'\n',
+    )
+}
