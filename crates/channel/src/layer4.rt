@@ -20,7 +20,7 @@ pub struct Opened {
 }
 
 // What the gathered bytes are: the message, or why they are none.
-pub fn read(bytes: &[u8]) -> Step
+pub(crate) fn read(bytes: &[u8]) -> Step
     requires { ⌜ (20 ≤ length (now bytes)) × (length (now bytes) ≤ 260) ⌝ }
     ensures { λ r. ⌜ outcome r ≡ messageOf (now (bytes .entry)) ⌝ }
 {
@@ -37,7 +37,7 @@ fn header_at(bytes: &[u8]) -> Opened
 }
 
 // The bytes of a header.
-pub fn size_of(ext: bool) -> usize
+pub(crate) fn size_of(ext: bool) -> usize
     ensures { λ r. ⌜ (r ≡ sizeOf ext) × (4 ≤ r) × (r ≤ 5) ⌝ }
 {
     if ext { 5 } else { 4 }

@@ -6,7 +6,7 @@ ghost use lib.Seq.{paste};
 ghost use Rattle.header.specs.Fields.{bytesOf, numberOf};
 
 // The header that bytes are.
-pub fn number(bytes: &[u8]) -> u64
+pub(crate) fn number(bytes: &[u8]) -> u64
     requires { ⌜ length (now bytes) ≤ 5 ⌝ }
     ensures { λ r. ⌜ (r ≡ numberOf (now (bytes .entry))) × (r < 2 ^ (8 * length (now (bytes .entry)))) ⌝ }
 {
@@ -26,7 +26,7 @@ fn wide(byte: u8) -> u64
 }
 
 // Fills bytes with a header.
-pub fn put_number(h: u64, bytes: &mut [u8])
+pub(crate) fn put_number(h: u64, bytes: &mut [u8])
     requires { ⌜ length (now bytes) ≤ 5 ⌝ }
     ensures { λ r. ⌜ now (bytes .exit) ≡ bytesOf (length (now (bytes .entry))) h ⌝ }
 {
@@ -40,7 +40,7 @@ pub fn put_number(h: u64, bytes: &mut [u8])
 }
 
 // Copies bytes to a place.
-pub fn put(part: &[u8], bytes: &mut [u8], at: usize)
+pub(crate) fn put(part: &[u8], bytes: &mut [u8], at: usize)
     requires { ⌜ at + length (now part) ≤ length (now bytes) ⌝ }
     ensures { λ r. ⌜ now (bytes .exit) ≡ paste (now (bytes .entry)) at (now (part .entry)) (length (now (part .entry))) ⌝ }
 {

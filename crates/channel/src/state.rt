@@ -17,7 +17,7 @@ use crate::layer4;
 use crate::row;
 use answers::Refusal;
 
-pub fn refused(refusal: Refusal, left: Channel) -> Stepped
+pub(crate) fn refused(refusal: Refusal, left: Channel) -> Stepped
     ensures { λ r. ⌜ paper r ≡ leaves (refused (numberOf refusal)) left ⌝ }
 {
     Stepped {
@@ -27,7 +27,7 @@ pub fn refused(refusal: Refusal, left: Channel) -> Stepped
 }
 
 // Whether length and expected SC are as the phase has them.
-pub fn keeps_rule(channel: Channel) -> bool
+pub(crate) fn keeps_rule(channel: Channel) -> bool
     ensures { λ r. ⌜ r ≡ keepsRule channel ⌝ }
 {
     let phase = channel.phase;
@@ -52,7 +52,7 @@ pub fn keeps_rule(channel: Channel) -> bool
 }
 
 // A block with a right header, by its LF, its SC and its twenty bytes.
-pub fn advance(channel: Channel, lf: bool, sc: u8, twenty: &[u8]) -> Stepped
+pub(crate) fn advance(channel: Channel, lf: bool, sc: u8, twenty: &[u8]) -> Stepped
     requires { ⌜ (keepsRule channel ≡ true) × (sc < 16) × (length (now twenty) ≡ 20) ⌝ }
     ensures { λ r. ⌜ paper r ≡ advanced channel lf sc (now (twenty .entry)) ⌝ }
 {

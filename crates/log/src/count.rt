@@ -17,7 +17,7 @@ pub fn is_counts(counts: Counts) -> bool
 }
 
 // Whether the counts agree with each other.
-pub fn is_sound(counts: Counts) -> bool
+pub(crate) fn is_sound(counts: Counts) -> bool
     ensures { λ r. ⌜ r ≡ isSound counts ⌝ }
 {
     if GREATEST_SLOT < counts.slots {
@@ -44,7 +44,7 @@ fn wide(x: u32) -> u64
 }
 
 // The counts of a log with its first line only.
-pub fn tuned_to(channel: u8) -> Counts
+pub(crate) fn tuned_to(channel: u8) -> Counts
     ensures { λ r. ⌜ r ≡ tuned channel ⌝ }
 {
     Counts {
@@ -60,7 +60,7 @@ pub fn tuned_to(channel: u8) -> Counts
 }
 
 // The counts with one slot more.
-pub fn count_one(counts: Counts, outcome: u8) -> Counts
+pub(crate) fn count_one(counts: Counts, outcome: u8) -> Counts
     requires { ⌜ isSound counts ≡ true ⌝ }
     requires { ⌜ counts .slots < 999999 ⌝ }
     ensures { λ r. ⌜ r ≡ counted counts outcome ⌝ }
@@ -77,7 +77,7 @@ pub fn count_one(counts: Counts, outcome: u8) -> Counts
     }
 }
 
-pub fn is_corrected(outcome: u8) -> bool
+pub(crate) fn is_corrected(outcome: u8) -> bool
     ensures { λ r. ⌜ r ≡ isCorrected outcome ⌝ }
 {
     if outcome < b'0' {

@@ -13,7 +13,7 @@ use crate::count;
 const GREATEST_CHANNEL: u8 = 204;
 
 // Whether this is the line that comes after these counts, and the counts with it.
-pub fn judge(counts: Counts, line: &[u8]) -> Judged
+pub(crate) fn judge(counts: Counts, line: &[u8]) -> Judged
     requires { ⌜ isSound counts ≡ true ⌝ }
     ensures { λ r. ⌜ r ≡ judged counts (now (line .entry)) ⌝ }
 {
@@ -117,7 +117,7 @@ fn spells(text: &[u8], number: u32) -> bool
     text[i - 1] == 48 + rest as u8
 }
 
-pub fn same(a: &[u8], b: &[u8]) -> bool
+pub(crate) fn same(a: &[u8], b: &[u8]) -> bool
     ensures { λ r. ⌜ r ≡ Log·same (now (a .entry)) (now (b .entry)) ⌝ }
 {
     if a.len() != b.len() {

@@ -27,7 +27,7 @@ struct Lines {
     at: usize,
 }
 
-pub fn between_lines(phase: Phase, counts: Counts) -> Reader
+pub(crate) fn between_lines(phase: Phase, counts: Counts) -> Reader
     ensures { λ r. ⌜ r ≡ between phase counts ⌝ }
 {
     Reader {
@@ -39,7 +39,7 @@ pub fn between_lines(phase: Phase, counts: Counts) -> Reader
 }
 
 // The reader after some bytes more.
-pub fn run(reader: Reader, piece: &[u8]) -> Reader
+pub(crate) fn run(reader: Reader, piece: &[u8]) -> Reader
     requires { ⌜ isReader reader ≡ true ⌝ }
     ensures { λ r. ⌜ r ≡ Reader·run reader (now (piece .entry)) ⌝ }
 {
@@ -124,7 +124,7 @@ fn whole_lines(counts: Counts, piece: &[u8], from: usize) -> Lines
 }
 
 // Where the line that starts here ends, or the piece.
-pub fn line_end(piece: &[u8], from: usize) -> usize
+pub(crate) fn line_end(piece: &[u8], from: usize) -> usize
     requires { ⌜ from ≤ length (now piece) ⌝ }
     ensures { λ r. ⌜ EndsAt (now (piece .entry)) from r ⌝ }
 {

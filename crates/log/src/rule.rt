@@ -10,7 +10,7 @@ use crate::count;
 use crate::line;
 use crate::machine;
 
-pub fn is_reader(reader: Reader) -> bool
+pub(crate) fn is_reader(reader: Reader) -> bool
     ensures { λ r. ⌜ r ≡ isReader reader ⌝ }
 {
     let phase = reader.phase;

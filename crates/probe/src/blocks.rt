@@ -2,7 +2,7 @@
 use crate::cases;
 use block::Corrected;
 
-pub fn has(command: &[u8]) -> bool {
+pub(crate) fn has(command: &[u8]) -> bool {
     if text::same(command, b"correct") {
         return true;
     }
@@ -12,7 +12,7 @@ pub fn has(command: &[u8]) -> bool {
     text::same(command, b"write-block")
 }
 
-pub fn answer(line: &[u8], answers: &mut [u8], at: usize) -> usize {
+pub(crate) fn answer(line: &[u8], answers: &mut [u8], at: usize) -> usize {
     if text::arguments(line) != 2 {
         return cases::bad(answers, at);
     }

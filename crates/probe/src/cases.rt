@@ -11,7 +11,7 @@ use text::Number;
 pub const MOST: usize = 32768;
 
 // The line is no case.
-pub fn bad(room: &mut [u8], at: usize) -> usize {
+pub(crate) fn bad(room: &mut [u8], at: usize) -> usize {
     put::word(room, at, b"bad case\n")
 }
 
@@ -22,7 +22,7 @@ pub struct Argument {
 }
 
 // The bytes of an argument, at most so many, at the start of a room.
-pub fn bytes_at(line: &[u8], index: usize, most: usize, room: &mut [u8]) -> Argument
+pub(crate) fn bytes_at(line: &[u8], index: usize, most: usize, room: &mut [u8]) -> Argument
     ensures { λ r. ⌜ Counts (r .count) (now (room .exit)) ⌝ }
 {
     let digits = text::field(line, index);
@@ -45,7 +45,7 @@ pub fn bytes_at(line: &[u8], index: usize, most: usize, room: &mut [u8]) -> Argu
 }
 
 // The name of the success, or the number of the refusal.
-pub fn put_answer(room: &mut [u8], at: usize, answer: Answer, success: &[u8]) -> usize {
+pub(crate) fn put_answer(room: &mut [u8], at: usize, answer: Answer, success: &[u8]) -> usize {
     match answer {
         Answer::Accepted => put::word(room, at, success),
         Answer::Refused(refusal) => put::number(room, at, answers::number(refusal) as u64),
@@ -53,26 +53,26 @@ pub fn put_answer(room: &mut [u8], at: usize, answer: Answer, success: &[u8]) ->
 }
 
 // A further field, which is a number.
-pub fn put_number(room: &mut [u8], at: usize, number: u64) -> usize {
+pub(crate) fn put_number(room: &mut [u8], at: usize, number: u64) -> usize {
     let parted = put::byte(room, at, b'\t');
     put::number(room, parted, number)
 }
 
 // The last field, which is bytes.
-pub fn put_bytes(room: &mut [u8], at: usize, bytes: &[u8]) -> usize {
+pub(crate) fn put_bytes(room: &mut [u8], at: usize, bytes: &[u8]) -> usize {
     let parted = put::byte(room, at, b'\t');
     let end = put::bytes(room, parted, bytes);
     put::byte(room, end, b'\n')
 }
 
 // A further field, which is a word.
-pub fn put_word(room: &mut [u8], at: usize, word: &[u8]) -> usize {
+pub(crate) fn put_word(room: &mut [u8], at: usize, word: &[u8]) -> usize {
     let parted = put::byte(room, at, b'\t');
     put::word(room, parted, word)
 }
 
 // A further field, which is a flag.
-pub fn put_flag(room: &mut [u8], at: usize, flag: bool) -> usize {
+pub(crate) fn put_flag(room: &mut [u8], at: usize, flag: bool) -> usize {
     if flag {
         return put_word(room, at, b"1");
     }
@@ -80,7 +80,7 @@ pub fn put_flag(room: &mut [u8], at: usize, flag: bool) -> usize {
 }
 
 // Whether an argument is a number, at most so great.
-pub fn is_number(line: &[u8], index: usize, most: u32) -> bool {
+pub(crate) fn is_number(line: &[u8], index: usize, most: u32) -> bool {
     match text::read_number(text::field(line, index), most) {
         Number::Is(_) => true,
         Number::Unreadable => false,
@@ -88,7 +88,7 @@ pub fn is_number(line: &[u8], index: usize, most: u32) -> bool {
 }
 
 // The number of an argument that is one, at most so great, else 0.
-pub fn number_at(line: &[u8], index: usize, most: u32) -> u32
+pub(crate) fn number_at(line: &[u8], index: usize, most: u32) -> u32
     ensures { λ r. ⌜ r ≤ most ⌝ }
 {
     match text::read_number(text::field(line, index), most) {
@@ -103,17 +103,17 @@ pub fn number_at(line: &[u8], index: usize, most: u32) -> u32
 }
 
 // A number below 256, of an argument that is one.
-pub fn small_at(line: &[u8], index: usize) -> u8 {
+pub(crate) fn small_at(line: &[u8], index: usize) -> u8 {
     number_at(line, index, 255) as u8
 }
 
 // A number below 65,536, of an argument that is one.
-pub fn middle_at(line: &[u8], index: usize) -> u16 {
+pub(crate) fn middle_at(line: &[u8], index: usize) -> u16 {
     number_at(line, index, 65535) as u16
 }
 
 // Whether an argument is a flag.
-pub fn is_flag(line: &[u8], index: usize) -> bool {
+pub(crate) fn is_flag(line: &[u8], index: usize) -> bool {
     match text::read_flag(text::field(line, index)) {
         Flag::Clear => true,
         Flag::Set => true,
@@ -122,7 +122,7 @@ pub fn is_flag(line: &[u8], index: usize) -> bool {
 }
 
 // Whether an argument is a flag that is set.
-pub fn flag_at(line: &[u8], index: usize) -> bool {
+pub(crate) fn flag_at(line: &[u8], index: usize) -> bool {
     match text::read_flag(text::field(line, index)) {
         Flag::Clear => false,
         Flag::Set => true,

@@ -4,7 +4,7 @@ ghost use Prim.Native.Nat.{_<_};
 use crate::cases;
 use crate::put;
 
-pub fn is_float(line: &[u8], index: usize) -> bool {
+pub(crate) fn is_float(line: &[u8], index: usize) -> bool {
     if text::field(line, index).len() != 16 {
         return false;
     }
@@ -14,7 +14,7 @@ pub fn is_float(line: &[u8], index: usize) -> bool {
 }
 
 // The binary64 of an argument that is one.
-pub fn float_at(line: &[u8], index: usize) -> f64 {
+pub(crate) fn float_at(line: &[u8], index: usize) -> f64 {
     let mut bytes = [0u8; 8];
     let given = cases::bytes_at(line, index, 8, &mut bytes);
     if given.count != 8 {
@@ -47,7 +47,7 @@ fn of_bits(bits: u64) -> f64 {
     f64::from_bits(bits)
 }
 
-pub fn put(answers: &mut [u8], at: usize, float: f64) -> usize {
+pub(crate) fn put(answers: &mut [u8], at: usize, float: f64) -> usize {
     if float != float {
         return cases::put_word(answers, at, b"nnnnnnnnnnnnnnnn");
     }

@@ -8,7 +8,7 @@ use group::Step;
 use group::Stepped;
 use group::writer::Series;
 
-pub fn has(command: &[u8]) -> bool {
+pub(crate) fn has(command: &[u8]) -> bool {
     if text::same(command, b"new-group") {
         return true;
     }
@@ -18,7 +18,7 @@ pub fn has(command: &[u8]) -> bool {
     text::same(command, b"write-group")
 }
 
-pub fn answer(line: &[u8], answers: &mut [u8], at: usize) -> usize {
+pub(crate) fn answer(line: &[u8], answers: &mut [u8], at: usize) -> usize {
     let command = text::field(line, 0);
     let arguments = text::arguments(line);
     if text::same(command, b"new-group") {

@@ -11,7 +11,7 @@ use channel::Stepped;
 use channel::writer::Fields;
 use channel::writer::Wrote;
 
-pub fn has(command: &[u8]) -> bool {
+pub(crate) fn has(command: &[u8]) -> bool {
     if text::same(command, b"new-channel") {
         return true;
     }
@@ -21,7 +21,7 @@ pub fn has(command: &[u8]) -> bool {
     text::same(command, b"write-message")
 }
 
-pub fn answer(line: &[u8], answers: &mut [u8], at: usize) -> usize {
+pub(crate) fn answer(line: &[u8], answers: &mut [u8], at: usize) -> usize {
     let command = text::field(line, 0);
     let arguments = text::arguments(line);
     if text::same(command, b"new-channel") {
@@ -168,7 +168,7 @@ fn put_rest(answers: &mut [u8], at: usize, header: Header) -> usize {
 }
 
 // Whether the fields of a message can be read: RI, CI, First, Last, number and COM.
-pub fn are_fields(line: &[u8], first: usize) -> bool
+pub(crate) fn are_fields(line: &[u8], first: usize) -> bool
     requires { ⌜ first < 100 ⌝ }
 {
     if !cases::is_number(line, first, 255) {
@@ -189,7 +189,7 @@ pub fn are_fields(line: &[u8], first: usize) -> bool
     cases::is_flag(line, first + 5)
 }
 
-pub fn fields_at(line: &[u8], first: usize) -> Fields
+pub(crate) fn fields_at(line: &[u8], first: usize) -> Fields
     requires { ⌜ first < 100 ⌝ }
 {
     Fields {
@@ -242,7 +242,7 @@ fn put_written(
 }
 
 // What a writer answers: the number of blocks, and the output.
-pub fn put_wrote(answers: &mut [u8], at: usize, wrote: Wrote, output: &[u8]) -> usize {
+pub(crate) fn put_wrote(answers: &mut [u8], at: usize, wrote: Wrote, output: &[u8]) -> usize {
     let answer = wrote.answer;
     let answered = cases::put_answer(answers, at, answer, b"written");
     let counted = cases::put_number(answers, answered, wrote.blocks as u64);

@@ -9,7 +9,7 @@ use log::Counts;
 use summary::Summary;
 use summary::Written;
 
-pub fn has(command: &[u8]) -> bool {
+pub(crate) fn has(command: &[u8]) -> bool {
     if text::same(command, b"khz") {
         return true;
     }
@@ -28,7 +28,7 @@ pub fn has(command: &[u8]) -> bool {
     text::same(command, b"export")
 }
 
-pub fn answer(line: &[u8], answers: &mut [u8], at: usize) -> usize {
+pub(crate) fn answer(line: &[u8], answers: &mut [u8], at: usize) -> usize {
     let command = text::field(line, 0);
     let arguments = text::arguments(line);
     if text::same(command, b"khz") {

@@ -28,7 +28,7 @@ pub struct Fixed {
 }
 
 // Whether two numbers have the same bits; the second is no NaN.
-pub fn same_bits(given: f64, own: f64) -> bool
+pub(crate) fn same_bits(given: f64, own: f64) -> bool
     requires { ⌜ Measured own ⌝ }
     ensures { λ r. ⌜ r ≡ sameBits given own ⌝ }
 {
@@ -39,7 +39,7 @@ pub fn same_bits(given: f64, own: f64) -> bool
 }
 
 // A cell: the number exactly, or nothing where it does not exist.
-pub fn put_cell(text: Text, exists: bool, number: f64) -> Text
+pub(crate) fn put_cell(text: Text, exists: bool, number: f64) -> Text
     requires { ⌜ Measured number ⌝ }
     ensures { λ r. ⌜ Grows text (cell exists number) r ⌝ }
 {

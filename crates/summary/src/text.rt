@@ -18,7 +18,7 @@ pub struct Text {
     pub length: usize,
 }
 
-pub fn empty() -> Text
+pub(crate) fn empty() -> Text
     ensures { λ r. ⌜ content r ≡ [] ⌝ }
 {
     Text {
@@ -27,7 +27,7 @@ pub fn empty() -> Text
     }
 }
 
-pub fn put_byte(text: Text, byte: u8) -> Text
+pub(crate) fn put_byte(text: Text, byte: u8) -> Text
     ensures { λ r. ⌜ Grows text (byte ∷ []) r ⌝ }
 {
     let at = text.length;
@@ -40,7 +40,7 @@ pub fn put_byte(text: Text, byte: u8) -> Text
     text
 }
 
-pub fn put(text: Text, bytes: &[u8]) -> Text
+pub(crate) fn put(text: Text, bytes: &[u8]) -> Text
     ensures { λ r. ⌜ Grows text (now (bytes .entry)) r ⌝ }
 {
     let mut so_far = text;
@@ -53,7 +53,7 @@ pub fn put(text: Text, bytes: &[u8]) -> Text
 }
 
 // A number in decimal, without leading zeros.
-pub fn put_number(text: Text, number: u64) -> Text
+pub(crate) fn put_number(text: Text, number: u64) -> Text
     ensures { λ r. ⌜ Grows text (decimal number) r ⌝ }
 {
     if number < 10 {
@@ -63,21 +63,21 @@ pub fn put_number(text: Text, number: u64) -> Text
 }
 
 // A number and the mark that ends it.
-pub fn put_field(text: Text, number: u32, mark: u8) -> Text
+pub(crate) fn put_field(text: Text, number: u32, mark: u8) -> Text
     ensures { λ r. ⌜ Grows text (ended (decimal number) mark) r ⌝ }
 {
     put_byte(put_number(text, number as u64), mark)
 }
 
 // A line of the report: a name, a tab, a number, a line feed.
-pub fn put_line(text: Text, name: &[u8], number: u32) -> Text
+pub(crate) fn put_line(text: Text, name: &[u8], number: u32) -> Text
     ensures { λ r. ⌜ Grows text (line (now (name .entry)) (decimal number)) r ⌝ }
 {
     put_field(put_byte(put(text, name), b'\t'), number, b'\n')
 }
 
 // Copies the text to the start of `out`. Refused, with `out` as before: 10 for an output that is shorter.
-pub fn deliver(text: Text, out: &mut [u8]) -> Written
+pub(crate) fn deliver(text: Text, out: &mut [u8]) -> Written
     ensures { λ r. ⌜ told r (now (out .exit)) ≡ written (content text) (now (out .entry)) ⌝ }
 {
     let bytes = text.bytes;
