@@ -1,12 +1,6 @@
-// The report of a log in C: every rule of a log is tested, as in the proved program, and the same bytes are written.
-// The log comes on standard input in pieces of 64 KiB; a line is judged where it lies. No header of C's library is used.
-typedef unsigned char u8;
-typedef unsigned int u32;
-typedef unsigned long long u64;
-long read(int, void *, unsigned long);
-long write(int, const void *, unsigned long);
-
-enum { LONGEST_LINE = 64, PIECE = 65536, MOST_DIGITS = 6, CHANNELS = 204, BAD_LINE = 12 };
+// The report of a log in C in one pass: every rule of a log is tested, as in the proved program, and the same bytes are
+// written. The log comes in pieces of 64 KiB; a line is judged where it lies, while its end is looked for.
+#include "report.h"
 
 static const u8 is_outcome[256] = {
     ['0' ... '8'] = 1, ['n'] = 1, ['c'] = 1, ['-'] = 1,
@@ -59,65 +53,29 @@ static const u8 *take_lines(const u8 *line, const u8 *end) {
     return feed == end && end - line < LONGEST_LINE ? line : 0;
 }
 
-// Reads the log to its end: 1 where every line is good, 0 where one is bad, -1 where reading fails.
-static int take_log(void) {
+static void count(struct counts *counts) {
+    counts->channel = channel;
+    counts->slots = slots;
+    for (int k = 0; k <= 8; k++) {
+        counts->read += seen['0' + k];
+        counts->bits += k * seen['0' + k];
+    }
+    counts->clean = seen['0'];
+    counts->noword = seen['n'];
+    counts->check = seen['c'];
+    counts->missing = seen['-'];
+}
+
+static int take_log(struct counts *counts) {
     long held = 0, got;
     while ((got = read(0, buffer + held, PIECE)) > 0) {
         u8 *end = buffer + held + got;
         *end = '\n';
         const u8 *rest = take_lines(buffer, end);
-        if (!rest) return 0;
+        if (!rest) break;
         held = end - rest;
         for (long i = 0; i < held; i++) buffer[i] = rest[i];
     }
-    return got < 0 ? -1 : channel && !held;
-}
-
-static char *put_text(char *out, const char *text) {
-    while (*text) *out++ = *text++;
-    return out;
-}
-
-static char *put_number(char *out, u64 n) {
-    char digits[20];
-    int k = 0;
-    do digits[k++] = '0' + n % 10; while (n /= 10);
-    while (k) *out++ = digits[--k];
-    return out;
-}
-
-static char *put_line(char *out, const char *name, u64 n) {
-    out = put_number(put_text(out, name), n);
-    *out++ = '\n';
-    return out;
-}
-
-static char *put_refusal(char *out) {
-    out = put_number(put_text(out, "refused\t"), BAD_LINE);
-    return put_line(out, "\t", channel ? slots + 2 : 1);
-}
-
-static char *put_report(char *out) {
-    u64 blocks = 0, bits = 0;
-    for (int k = 0; k <= 8; k++) {
-        blocks += seen['0' + k];
-        bits += (u64)k * seen['0' + k];
-    }
-    out = put_line(out, "khz\t", 87500 + 100 * channel);
-    out = put_line(out, "slots\t", slots);
-    out = put_line(out, "read\t", blocks);
-    out = put_line(out, "clean\t", seen['0']);
-    out = put_line(out, "bits\t", bits);
-    out = put_line(out, "noword\t", seen['n']);
-    out = put_line(out, "check\t", seen['c']);
-    out = put_line(out, "missing\t", seen['-']);
-    return blocks ? put_line(out, "mean\t", 1000 * bits / blocks) : put_text(out, "mean\t-\n");
-}
-
-int main(void) {
-    char text[256];
-    int good = take_log();
-    if (good < 0) return 1;
-    long length = (good ? put_report(text) : put_refusal(text)) - text;
-    return write(1, text, length) == length ? 0 : 1;
+    count(counts);
+    return got < 0 ? -1 : !got && channel && !held;
 }
