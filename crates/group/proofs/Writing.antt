@@ -2,7 +2,7 @@
 use Prim.Native.Nat.{ℕ, zero, suc, _+_, _-_, _*_, _/_, _%_, _≤_, _<_, min}
 use mathlib.Core.Path.{_≡_, refl, sym, ap, ap₂, _∙_}
 use mathlib.Core.Bool.{Bool, true, false}
-use mathlib.Core.List.{List, [], _∷_, _++_, append-assoc}
+use mathlib.Core.List.{List, [], _++_, append-assoc}
 use native.Mathlib.Decide.{decLe}
 use native.Mathlib.Omega.{arith}
 use borrow.Author.Tests.{leb-true, le-leb}
@@ -20,7 +20,7 @@ use Rattle.channel.specs.Writer as channel
 use Rattle.channel.specs.declared.writer.Fields.{Fields}
 use Rattle.channel.specs.declared.writer.Wrote.{Wrote}
 use Rattle.channel.proofs.Laws.{both-true, size-room}
-use Rattle.channel.proofs.Writing.{block-length, length-cut, message-length}
+use Rattle.channel.proofs.Writing.{block-length, length-cut, message-length, flat-append}
 use Rattle.group.specs.Writer.{within, groupFields, messagesOf, blocksOf, messagesFor}
 use Rattle.group.specs.declared.writer.Series.{Series}
 
@@ -48,10 +48,6 @@ module _ (m : Fields) (di : Bool) (sc : ℕ) (s : List ℕ) where
 
     pub message-small : length (messageBlocks m di sc s) ≤ 13
     message-small = omega (arith, message-count, size-room (leb 512 (m .number)))
-
-pub flat-append : (xs ys : List (List ℕ)) → flat (xs ++ ys) ≡ flat xs ++ flat ys
-flat-append [] ys = refl
-flat-append (x ∷ xs) ys = ap (λ (r : List ℕ). x ++ r) (flat-append xs ys) ∙ sym (append-assoc x (flat xs) (flat ys))
 
 -- what the group writer takes
 pub series-bounds : (x : Series) (n : ℕ) → within x n ≡ true → (x .number ≤ 16383) × (x .ri ≤ 3) × (x .sc ≤ 15) × (x .ci ≤ 3) × (n ≤ 3825)
