@@ -13,14 +13,17 @@ and-both true t e = (refl, e)
 and-both false true e = (e, refl)
 and-both false false e = (e, e)
 
+pub within : (a n b : ℕ) → (leb a n && leb n b) ≡ true → (a ≤ n) × (n ≤ b)
+within a n b e = let t = and-both (leb a n) (leb n b) e in (leb-true a n (t .0), leb-true n b (t .1))
+
 pub in-range : (n : ℕ) → isChannel n ≡ true → (1 ≤ n) × (n ≤ 204)
-in-range n e = let a = and-both (leb 1 n) (leb n 204) e in (leb-true 1 n (a .0), leb-true n 204 (a .1))
+in-range n e = within 1 n 204 e
 
 pub in-band : (f : ℕ) → isFrequency f ≡ true → (87600 ≤ f) × (f ≤ 107900) × (f % 100 ≡ 0)
 in-band f e =
     let a = and-both (leb 87600 f && leb f 107900) (eqb (f % 100) 0) e in
-    let b = and-both (leb 87600 f) (leb f 107900) (a .0) in
-    (leb-true 87600 f (b .0), leb-true f 107900 (b .1), eqb-true (f % 100) 0 (a .1))
+    let b = within 87600 f 107900 (a .0) in
+    (b .0, b .1, eqb-true (f % 100) 0 (a .1))
 
 -- A CHANNEL'S FREQUENCY IS THAT CHANNEL'S
 pub channel-back : (n : ℕ) → isChannel n ≡ true → channelOf (record { 0 = 87500 + 100 * n }) ≡ record { answer = accepted; number = n }

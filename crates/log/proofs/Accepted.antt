@@ -40,9 +40,6 @@ pub record Slots (c : Counts) (line rest : List ℕ) : Type 0 where
   pub text : line ++ rest ≡ slotLines (c .slots + 1) outcomes
   pub counts : ends (run (heldOf c line) rest) .reader .counts ≡ countsFrom c outcomes
 
-no-bool : true ≡ false → ⊥
-no-bool e = let z : _≡_ {A = ℕ} 0 1 = cc in omega arith
-
 -- the end inside a line
 end-inside : (c : Counts) (x : ℕ) (line : List ℕ) → ends (heldOf c (x ∷ line)) .answer ≡ accepted → ⊥
 end-inside c x line e =

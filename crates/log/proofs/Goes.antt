@@ -1,20 +1,20 @@
 -- A part of a piece after the other. Assumes nothing.
-use Prim.Native.Nat.{ℕ, suc, _+_, _-_, _<_, _≤_}
+use Prim.Native.Nat.{ℕ, _+_, _-_, _<_, _≤_}
 use mathlib.Core.Path.{_≡_, refl, ap, sym, _∙_, subst}
 use mathlib.Core.Bool.{true, false}
-use mathlib.Core.List.{List, _∷_, _++_}
+use mathlib.Core.List.{List, _∷_}
 use native.Mathlib.Numerals.{add-one}
 use native.Mathlib.Omega.{arith}
-use lib.ListN.{length, getD, take, drop, drop-of-length-le, take-append-drop, length-drop}
-use lib.Seq.{drop-cons, drop-drop, length-take-le}
+use lib.ListN.{length, getD, take, drop, drop-of-length-le}
+use lib.Seq.{drop-cons}
 use Rattle.log.specs.declared.Counts.{Counts}
 use Rattle.log.specs.declared.Reader.{Reader}
 use Rattle.log.specs.declared.Phase.the-variants.{Open}
-use Rattle.log.specs.Log.{judged}
+use Rattle.log.specs.Log.{counted}
 use Rattle.log.specs.Reader.{between, openStep, isOpen, stepOf, run, isBefore}
-use Rattle.log.specs.Machine.{Goes, EndsAt}
-use Rattle.log.proofs.Outcomes.{judged-before}
-use Rattle.log.proofs.Runs.{run-none, run-cons, line-run, run-shut, between-ruled, open-held, heldOf, Kept, step-kept}
+use Rattle.log.specs.Machine.{Goes, NextSlot}
+use Rattle.log.proofs.Written.{slot-run, slot-before}
+use Rattle.log.proofs.Runs.{run-none, run-cons, run-shut, between-ruled, open-held, heldOf, Kept, step-kept}
 
 pub goes-start : (piece : List ℕ) (s : Reader) (i : ℕ) → Kept s → i ≤ length piece → Goes piece s i s i
 goes-start piece s i k h = record { same = refl; rule = k .0; full = k .1; on = omega arith; within = h }
@@ -26,25 +26,14 @@ goes-on piece s t u i j k g h =
 pub goes-end : (piece : List ℕ) (s t : Reader) (i j : ℕ) → Goes piece s i t j → length piece ≤ j → run s (drop i piece) ≡ t
 goes-end piece s t i j g h = g .same ∙ ap (run t) (drop-of-length-le piece h) ∙ run-none t
 
-line-split : (piece : List ℕ) (i j : ℕ) → i ≤ j → j < length piece → getD piece j 0 ≡ 10
-    → drop i piece ≡ take (j - i) (drop i piece) ++ (10 ∷ drop (j + 1) piece)
-line-split piece i j h k e =
-    let n : i + (j - i) ≡ j = omega arith in
-    sym (take-append-drop (j - i) (drop i piece))
-    ∙ ap (λ (l : List ℕ). take (j - i) (drop i piece) ++ l)
-    (drop-drop (j - i) i piece ∙ ap (λ (m : ℕ). drop m piece) n ∙ drop-cons piece j 0 k
-    ∙ ap (λ (b : ℕ). b ∷ drop (suc j) piece) e ∙ ap (λ (m : ℕ). 10 ∷ drop m piece) (sym (add-one j)))
-
--- a good line
-pub goes-line : (piece : List ℕ) (c : Counts) (i j : ℕ) → isBefore c ≡ true → EndsAt piece i j → j < length piece → j - i ≤ 63
-    → judged c (take (j - i) (drop i piece)) .good ≡ true
-    → Goes piece (between Open c) i (between Open (judged c (take (j - i) (drop i piece)) .counts)) (j + 1)
-goes-line piece c i j b w k m g =
-    let l = take (j - i) (drop i piece) in
-    let n : length l ≤ 63 = omega (arith, length-take-le (j - i) (drop i piece) (rw length-drop (omega (arith, w .on)))) in
+-- the next slot's line
+pub goes-slot : (piece : List ℕ) (c : Counts) (i j : ℕ) → isBefore c ≡ true → NextSlot c piece i j → j < length piece
+    → Goes piece (between Open c) i (between Open (counted c (getD piece (j - 1) 0))) (j + 1)
+goes-slot piece c i j b w k =
+    let o = getD piece (j - 1) 0 in
     record {
-      same = ap (run (between Open c)) (line-split piece i j (w .on) k (w .feed k)) ∙ line-run c l (drop (j + 1) piece) (w .plain) n ∙ rw g;
-      rule = between-ruled Open (judged c l .counts) refl (judged-before c l b);
+      same = ap (run (between Open c)) (w .line) ∙ slot-run c o (drop (j + 1) piece) (w .tuned) (w .few) (w .outcome);
+      rule = between-ruled Open (counted c o) refl (slot-before c o (w .tuned) (w .few) (w .outcome) b);
       full = refl;
       on = omega (arith, w .on);
       within = omega arith;

@@ -7,6 +7,7 @@ pub mod Outcomes
 pub mod Runs
 pub mod Goes
 pub mod Written
+pub mod Slots
 pub mod Accepted
 pub mod Exact
 pub mod Pieces

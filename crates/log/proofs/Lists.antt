@@ -1,7 +1,7 @@
 -- Laws of tests, and of texts that are the same. Assumes nothing.
 use Prim.Native.Nat.{ℕ, suc, _+_, _-_, _<_, _≤_}
 use mathlib.Core.Path.{_≡_, refl, ap, sym, _∙_}
-use mathlib.Core.Bool.{Bool, true, false, cond, not, _&&_, _||_}
+use mathlib.Core.Bool.{Bool, true, false, cond, not, _&&_}
 use mathlib.Core.List.{List, [], _∷_, _++_}
 use native.Mathlib.Numerals.{add-one}
 use native.Mathlib.Omega.{arith}
@@ -101,15 +101,6 @@ take-last l i h k =
 
 pub tail-part : (n : ℕ) (l : List ℕ) → n ≤ length l → take (length l - n) (drop n l) ≡ drop n l
 tail-part n l h = take-all (length l - n) (drop n l) (rw length-drop (omega arith))
-
-pub or-false : (t : Bool) → (t || false || false || false) ≡ t
-or-false true = refl
-or-false false = refl
-
-pub and-no : (s t : Bool) → (t && (s && false)) ≡ false
-and-no true true = refl
-and-no false true = refl
-and-no s false = refl
 
 pub same-true : (a b : List ℕ) → same a b ≡ true → a ≡ b
 unfolding same

@@ -5,10 +5,10 @@ use mathlib.Core.Bool.{true, false, cond, _&&_}
 use mathlib.Core.List.{List, [], _∷_}
 use native.Mathlib.Omega.{arith}
 use lib.ListN.{length}
-use lib.Dec.{eqb, ltb, leb}
-use borrow.Author.Tests.{leb-true, le-leb, eqb-true, ltb-true, ne-eqb}
+use lib.Dec.{eqb, ltb}
+use borrow.Author.Tests.{le-leb, eqb-true, ltb-true, ne-eqb}
 use Rattle.band.specs.Band.{isChannel}
-use Rattle.band.proofs.Laws.{and-both}
+use Rattle.band.proofs.Laws.{and-both, within}
 use Rattle.log.specs.declared.Counts.{Counts}
 use Rattle.log.specs.Log.{isCorrected, isOutcome, one, counted, tuned, isSound, channelUpTo, firstLine, same, slotLine, last, isNext, judged}
 use Rattle.log.specs.Reader.{isBefore}
@@ -23,11 +23,9 @@ unfolding isOutcome
 outcome-with P d n c m o e =
     by-cases (P o) (isCorrected o)
     (λ h.
-    let r = and-both (leb 48 o) (leb o 56) h in
-    let a = leb-true 48 o (r .0) in
-    let b = leb-true o 56 (r .1) in
-    let w : 48 + (o - 48) ≡ o = omega arith in
-    subst P w (d (o - 48) (omega arith)))
+    let r = within 48 o 56 h in
+    let w : 48 + (o - 48) ≡ o = omega (arith, r .0) in
+    subst P w (d (o - 48) (omega (arith, r .1))))
     (λ h. by-cases (P o) (eqb o 110) (λ k. subst P (sym (eqb-true o 110 k)) n)
     (λ i. by-cases (P o) (eqb o 99) (λ k. subst P (sym (eqb-true o 99 k)) c)
     (λ j. subst P (sym (eqb-true o 45 (rw (h, i, j) at e))) m)))

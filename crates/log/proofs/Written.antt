@@ -17,12 +17,12 @@ use Rattle.log.specs.declared.Reader.{Reader}
 use Rattle.log.specs.declared.Phase.the-variants.{Open}
 use Rattle.log.specs.Decimal.{decimal}
 use Rattle.log.specs.Log.{tab, firstLine, slotLine, isOutcome, slotLines, logText, allOutcomes, counted, countsFrom, tuned, same, last, channelUpTo, isNext, judged}
-use Rattle.log.specs.Reader.{between, fresh, afterLine, run, endedAt, wholeOf, readOf, isPlain}
+use Rattle.log.specs.Reader.{between, fresh, afterLine, run, endedAt, wholeOf, readOf, isPlain, isBefore}
 use Rattle.log.proofs.Lists.{by-cases, same-refl, same-true}
 use Rattle.log.proofs.Decimal.{decimal-length, decimal-plain, decimal-once}
 use Rattle.log.proofs.Lines.{channelTab, channel-here, channel-next}
 use Rattle.log.proofs.Plain.{plain-append, plain-one}
-use Rattle.log.proofs.Outcomes.{outcome-with}
+use Rattle.log.proofs.Outcomes.{outcome-with, judged-before}
 use Rattle.log.proofs.Runs.{run-none, line-run}
 
 first-once : (m n : ℕ) → m ≤ 204 → n ≤ 204 → firstLine m ≡ firstLine n → m ≡ n
@@ -114,14 +114,25 @@ pub counted-few : (c : Counts) (o n : ℕ) → c .slots + suc n ≤ 999999 → c
 unfolding counted
 counted-few c o n h = omega arith
 
+-- a slot's line is read, and the next slot is next
+pub slot-run : (c : Counts) (o : ℕ) (rest : List ℕ) → eqb (c .channel) 0 ≡ false → c .slots < 999999 → isOutcome o ≡ true
+    → run (between Open c) (slotLine (c .slots + 1) o ++ (10 ∷ rest)) ≡ run (between Open (counted c o)) rest
+slot-run c o rest z h k =
+    line-run c (slotLine (c .slots + 1) o) rest (slot-plain (c .slots + 1) o k) (slot-length (c .slots + 1) o)
+    ∙ ap (λ (j : Judged). run (afterLine j) rest) (slot-judged c o z h k)
+
+pub slot-before : (c : Counts) (o : ℕ) → eqb (c .channel) 0 ≡ false → c .slots < 999999 → isOutcome o ≡ true → isBefore c ≡ true
+    → isBefore (counted c o) ≡ true
+slot-before c o z h k b =
+    sym (ap (λ (j : Judged). isBefore (j .counts)) (slot-judged c o z h k)) ∙ judged-before c (slotLine (c .slots + 1) o) b
+
 pub slots-run : (os : List ℕ) (c : Counts) → eqb (c .channel) 0 ≡ false → allOutcomes os ≡ true → c .slots + length os ≤ 999999
     → run (between Open c) (slotLines (c .slots + 1) os) ≡ between Open (countsFrom c os)
 unfolding slotLines countsFrom allOutcomes
 slots-run [] c z g h = run-none (between Open c)
 slots-run (o ∷ os) c z g h =
     let a = and-both (isOutcome o) (allOutcomes os) g in
-    line-run c (slotLine (c .slots + 1) o) (slotLines (c .slots + 1 + 1) os) (slot-plain (c .slots + 1) o (a .0)) (slot-length (c .slots + 1) o)
-    ∙ ap (λ (j : Judged). run (afterLine j) (slotLines (c .slots + 1 + 1) os)) (slot-judged c o z (omega arith) (a .0))
+    slot-run c o (slotLines (c .slots + 1 + 1) os) z (omega arith) (a .0)
     ∙ counted-next c o os _ (slots-run os (counted c o) (counted-channel c o z) (a .1) (counted-few c o (length os) (omega arith)))
 
 pub written-run : (n : ℕ) (os : List ℕ) → isChannel n ≡ true → allOutcomes os ≡ true → length os ≤ 999999

@@ -1,8 +1,9 @@
 // The counts of a log, and which of them some accepted log gives.
 ghost use mathlib.Core.Path.{_≡_};
-ghost use mathlib.Core.Bool.{true, cond};
+ghost use mathlib.Core.Bool.{true, cond, _&&_};
 ghost use Prim.Native.Nat.{_-_, _≤_, _<_};
-ghost use Rattle.log.specs.Log.{isCorrected, one, counted, tuned, isSound, isCounts};
+ghost use lib.Dec.{leb};
+ghost use Rattle.log.specs.Log.{isCorrected, isOutcome, one, counted, tuned, isSound, isCounts};
 use crate::Counts;
 use crate::GREATEST_SLOT;
 
@@ -77,13 +78,28 @@ pub(crate) fn count_one(counts: Counts, outcome: u8) -> Counts
     }
 }
 
-pub(crate) fn is_corrected(outcome: u8) -> bool
+// `0` to `8`, `n`, `c` or `-`. The tests are added up and not chained, as no processor foresees which of them holds.
+pub(crate) fn is_outcome(outcome: u8) -> bool
+    ensures { λ r. ⌜ r ≡ isOutcome outcome ⌝ }
+{
+    let unread = one_if(outcome == b'n') + one_if(outcome == b'c') + one_if(outcome == b'-');
+    one_if(is_corrected(outcome)) + unread != 0
+}
+
+fn is_corrected(outcome: u8) -> bool
     ensures { λ r. ⌜ r ≡ isCorrected outcome ⌝ }
 {
-    if outcome < b'0' {
+    is_digit(outcome, b'8')
+}
+
+// Whether this is a digit, up to this one.
+pub(crate) fn is_digit(byte: u8, most: u8) -> bool
+    ensures { λ r. ⌜ r ≡ (leb 48 byte && leb byte most) ⌝ }
+{
+    if byte < b'0' {
         return false;
     }
-    outcome <= b'8'
+    byte <= most
 }
 
 fn bits_of(outcome: u8) -> u32

@@ -4,6 +4,7 @@ mod count;
 mod line;
 mod machine;
 mod rule;
+mod slot;
 
 pub use count::is_counts;
 ghost use mathlib.Core.Path.{_≡_};

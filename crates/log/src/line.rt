@@ -3,7 +3,7 @@ ghost use mathlib.Core.Path.{_≡_};
 ghost use mathlib.Core.Bool.{true};
 ghost use Prim.Native.Nat.{_≤_};
 ghost use Rattle.log.specs.Decimal.{decimal};
-ghost use Rattle.log.specs.Log.{firstLine, channelUpTo, isOutcome, isNext, isSound, judged};
+ghost use Rattle.log.specs.Log.{firstLine, channelUpTo, isNext, isSound, judged};
 ghost use Rattle.log.specs.Log.{same as Log·same};
 use crate::Counts;
 use crate::GREATEST_SLOT;
@@ -77,22 +77,10 @@ fn is_next(slots: u32, line: &[u8]) -> bool
     if line[at] != b'\t' {
         return false;
     }
-    if is_outcome(line[at + 1]) {
+    if count::is_outcome(line[at + 1]) {
         return spells(&line[..at], slots + 1);
     }
     false
-}
-
-// `0` to `8`, `n`, `c` or `-`.
-fn is_outcome(outcome: u8) -> bool
-    ensures { λ r. ⌜ r ≡ isOutcome outcome ⌝ }
-{
-    match outcome {
-        b'n' => true,
-        b'c' => true,
-        b'-' => true,
-        _ => count::is_corrected(outcome),
-    }
 }
 
 // Whether the text is the number in decimal, compared from the last digit on.

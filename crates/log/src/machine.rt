@@ -1,4 +1,4 @@
-// The machine over bytes. It holds a line that is cut; a line that lies whole in the piece is judged where it stands.
+// The machine over bytes. It holds a line that is cut; a slot's line that lies whole in the piece is read where it stands.
 ghost use mathlib.Core.Path.{_≡_};
 ghost use mathlib.Core.Bool.{true, not};
 ghost use Prim.Native.Nat.{_≤_, _<_};
@@ -10,7 +10,9 @@ use crate::Counts;
 use crate::Judged;
 use crate::Phase;
 use crate::Reader;
+use crate::count;
 use crate::line;
+use crate::slot;
 
 // The longest line, without its line feed.
 const LONGEST_LINE: usize = 63;
@@ -96,7 +98,7 @@ fn is_refused(phase: Phase) -> bool
     }
 }
 
-// Takes the good lines that stand whole in the piece from here on.
+// Takes the good lines of slots that stand whole in the piece from here on.
 fn whole_lines(counts: Counts, piece: &[u8], from: usize) -> Lines
     requires { ⌜ isBefore counts ≡ true ⌝ }
     requires { ⌜ from ≤ length (now piece) ⌝ }
@@ -105,19 +107,11 @@ fn whole_lines(counts: Counts, piece: &[u8], from: usize) -> Lines
     let mut so_far = counts;
     let mut at = from;
     while at < piece.len() {
-        let end = line_end(piece, at);
+        let end = slot::slot_end(so_far, piece, at);
         if end == piece.len() {
             return Lines { counts: so_far, at };
         }
-        if LONGEST_LINE < end - at {
-            return Lines { counts: so_far, at };
-        }
-        let judged = line::judge(so_far, &piece[at..end]);
-        if !judged.good {
-            return Lines { counts: so_far, at };
-        }
-        let next = judged.counts;
-        so_far = next;
+        so_far = count::count_one(so_far, piece[end - 1]);
         at = end + 1;
     }
     Lines { counts: so_far, at }

@@ -14,7 +14,8 @@ struct Intake {
 }
 
 fn main() {
-    let intake = read_all();
+    let mut buffer = io::large_buffer();
+    let intake = read_all(&mut buffer);
     if intake.failed {
         os::fail(b"sheet: standard input");
         return;
@@ -31,7 +32,7 @@ fn main() {
 }
 
 // A proved loop has to end: it counts its turns down from a number that no run uses up.
-fn read_all() -> Intake {
+fn read_all(buffer: &mut [u8]) -> Intake {
     let mut intake = Intake {
         reader: log::start(),
         more: true,
@@ -40,7 +41,7 @@ fn read_all() -> Intake {
     let mut turns = u64::MAX;
     while turns > 0 {
         let reader = intake.reader;
-        intake = read_some(reader);
+        intake = read_some(reader, buffer);
         if !intake.more {
             return intake;
         }
@@ -50,9 +51,8 @@ fn read_all() -> Intake {
 }
 
 // Reads once, and takes the piece that came.
-fn read_some(reader: Reader) -> Intake {
-    let mut buffer = io::large_buffer();
-    let got = libc::read(STDIN_FILENO, &mut buffer);
+fn read_some(reader: Reader, buffer: &mut [u8]) -> Intake {
+    let got = libc::read(STDIN_FILENO, buffer);
     if got <= 0 {
         return Intake {
             reader,
@@ -60,7 +60,7 @@ fn read_some(reader: Reader) -> Intake {
             failed: got < 0,
         };
     }
-    let count = io::count(got, &buffer);
+    let count = io::count(got, buffer);
     let fed = log::feed(reader, &buffer[..count]);
     let next = fed.reader;
     Intake {

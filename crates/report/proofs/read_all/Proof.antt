@@ -1,21 +1,26 @@
+use lib.ListN.{length}
+use mathlib.Core.Path.{_≡_, refl, _∙_}
 use native.Mathlib.Omega.{arith}
 use Rattle.report.proofs.read_all.Statement.{statement}
 use Rattle.report.proofs.read_all.Tie as tie
 
 abbrev Inv-loop : tie.InvT-loop
-Inv-loop intake₀ turns₀ intake turns = Unit {0}
+Inv-loop buffer₀ intake₀ turns₀ buffer intake turns = length buffer ≡ length buffer₀
 
 abbrev μ-loop : tie.MeasureT-loop
-μ-loop intake₀ turns₀ intake turns = turns
+μ-loop buffer₀ intake₀ turns₀ buffer intake turns = turns
 
 start-requires : tie.Need-start-requires Inv-loop μ-loop
 start-requires c κs = tt
 
 loop-holds : tie.Need-loop-holds Inv-loop μ-loop
-loop-holds c = tt
+loop-holds c = refl
 
 read-some-requires : tie.Need-read-some-requires Inv-loop μ-loop
 read-some-requires c κs = tt
+
+same-length : tie.Need-same-length Inv-loop μ-loop
+same-length c = c .before .before .before .before .read-some .kept .1 .0 ∙ c .before .before .before .before .before .before .before .before .loop .inv
 
 returns : tie.Need-returns Inv-loop μ-loop
 returns c = tt
@@ -27,7 +32,10 @@ loop-less : tie.Need-loop-less Inv-loop μ-loop
 loop-less c = omega arith
 
 loop-again : tie.Need-loop-again Inv-loop μ-loop
-loop-again c = tt
+loop-again c = c .before .before .before .before .read-some .kept .1 .0 ∙ c .before .before .before .before .before .before .before .before .loop .inv
+
+same-length-2 : tie.Need-same-length-2 Inv-loop μ-loop
+same-length-2 c = c .before .loop .inv
 
 returns-2 : tie.Need-returns-2 Inv-loop μ-loop
 returns-2 c = tt
@@ -41,8 +49,10 @@ read-all-spec =
     start-requires
     loop-holds
     read-some-requires
+    same-length
     returns
     sub-turns
     loop-less
     loop-again
+    same-length-2
     returns-2)

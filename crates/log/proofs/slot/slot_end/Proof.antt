@@ -1,0 +1,76 @@
+use denote.Ref.{now}
+use borrow.Author.Tests.{ne-eqb, eqb-true}
+use mathlib.Core.Path.{sym, _∙_, subst}
+use Prim.Native.Nat.{ℕ}
+use Rattle.log.specs.Machine.{Reads}
+use Rattle.band.proofs.Laws.{and-both}
+use Rattle.log.proofs.Outcomes.{before-sound}
+use Rattle.log.proofs.Sound.{sound}
+use Rattle.log.proofs.Slots.{next-slot}
+use native.Mathlib.Omega.{arith}
+use borrow.Author.Needs.{needs}
+use Rattle.log.proofs.slot.slot_end.Statement.{statement}
+use Rattle.log.proofs.slot.slot_end.Tie as tie
+
+returns : tie.Need-returns
+returns c = (omega arith, λ h. absurd (omega arith))
+
+sub-if2 : tie.Need-sub-if2
+sub-if2 c = search needs
+
+returns-2 : tie.Need-returns-2
+returns-2 c = (omega arith, λ h. absurd (omega arith))
+
+shared-slice-read-if3 : tie.Need-shared-slice-read-if3
+shared-slice-read-if3 c = search needs
+
+returns-3 : tie.Need-returns-3
+returns-3 c = (omega arith, λ h. absurd (omega arith))
+
+digits-at-requires : tie.Need-digits-at-requires
+digits-at-requires c κs = (omega arith, c .if3 .left)
+
+add-if4 : tie.Need-add-if4
+add-if4 c = omega (arith, sound _ (before-sound _ (c .before .before .before .before .before .before .before .before .pre .0)) .few)
+
+returns-4 : tie.Need-returns-4
+returns-4 c = (omega arith, λ h. absurd (omega arith))
+
+is-tail-requires : tie.Need-is-tail-requires
+is-tail-requires c κs = omega (arith, c .before .before .before .digits-at .ensures .short)
+
+add-result : tie.Need-add-result
+add-result c = omega (arith, c .before .before .before .before .before .before .digits-at .ensures .short)
+
+returns-5 : tie.Need-returns-5
+returns-5 c =
+    let a = c .before .before .before .before .before .before .before .before .before .before .before .before .before .args in
+    let l = now (a .piece) in
+    let d = c .before .before .before .before .before .before .digits-at in
+    let t = and-both _ _ (sym (c .before .before .is-tail .ensures) ∙ c .before .if5 .taken) in
+    let u = and-both _ _ (t .0) in (
+      omega (arith, d .ensures .short),
+      λ h. next-slot (a .counts) l (a .from) (d .result .end)
+          (subst (λ (n : ℕ). Reads l (a .from) (d .result .end) n) (c .before .before .before .if4 .left) (d .ensures))
+          (ne-eqb _ _ (c .before .before .before .before .before .before .before .before .before .before .if1 .left)) h (eqb-true _ _ (u .0)) (t .1) (eqb-true _ _ (u .1)),
+    )
+
+returns-6 : tie.Need-returns-6
+returns-6 c = (omega arith, λ h. absurd (omega arith))
+
+pub slot-end-spec : {M : Type 1} → statement M
+slot-end-spec =
+    tie.close
+    (tie.spec
+    returns
+    sub-if2
+    returns-2
+    shared-slice-read-if3
+    returns-3
+    digits-at-requires
+    add-if4
+    returns-4
+    is-tail-requires
+    add-result
+    returns-5
+    returns-6)
