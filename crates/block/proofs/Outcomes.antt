@@ -1,32 +1,25 @@
 -- What was seen decides the outcome. Assumes nothing.
 use mathlib.Core.Path.{_≡_, refl, sym, ap, _∙_, subst}
-use mathlib.Core.Bool.{Bool, true, false, false≢true}
+use mathlib.Core.Bool.{Bool, true, false, false≢true, _&&_, not}
+use mathlib.Core.Logic.{inl, inr}
+use lib.Dec.{eqb}
+use borrow.Author.Tests.{eqb-true, eq-eqb, not-true}
 use mathlib.Core.List.{List, _++_, append-nil}
 use Prim.Native.Nat.{ℕ, _*_, _-_, _≤_, _<_}
 use native.Mathlib.Omega.{arith}
-use lib.ListN.{length, take, drop, replicate, length-drop, length-replicate, drop-of-length-le}
+use lib.ListN.{length, take, drop, replicate, length-replicate, drop-of-length-le}
 use lib.Seq.{take-all}
 use Rattle.answers.specs.declared.Answer.{Answer}
-use Rattle.answers.specs.Numbers.{accepted, refused, paper}
-use Rattle.gf2.specs.Poly.{allZero, divided, remainder}
-use Rattle.gf2.proofs.Remainders.{length-divided}
+use Rattle.answers.specs.Numbers.{refused, paper}
+use Rattle.gf2.specs.Poly.{allZero, remainder}
 use Rattle.code.specs.Code.{generator, distance}
 use Rattle.code.specs.Vote.{voted}
-use Rattle.code.proofs.Computed.{generator-length}
 use Rattle.code.proofs.Majority.{length-voted, code-length}
 use Rattle.code.proofs.Accepted.{code-tested, accepts}
 use Rattle.block.specs.Bytes.{rowOf}
-use Rattle.block.specs.Nearest.{Near, NoneNear, Searched}
-use Rattle.block.specs.Corrector.{Sized, WrongLength, NoCodeWord, Word}
-use Rattle.block.specs.Blocks.{CheckRight, Information}
-
--- the rest of the division by the generator
-pub divided-rest : (row after low : List Bool) → length row ≡ 272 → low ≡ generator → after ≡ divided low (length row - length low) row
-    → take 82 (drop 190 after) ≡ remainder generator 190 row
-divided-rest row after low l g e =
-    let steps : length row - length low ≡ 190 = omega (arith, ap length g, generator-length) in
-    take-all 82 (drop 190 after) (omega (arith, length-drop 190 after, ap length e, length-divided low (length row - length low) row))
-    ∙ ap (drop 190) (e ∙ (λ i. divided (g i) (steps i) row))
+use Rattle.block.specs.Nearest.{Near, Searched, Puts}
+use Rattle.block.specs.Corrector.{Sized, WrongLength, NoCodeWord, Corrects}
+use Rattle.block.specs.Blocks.{CheckRight, Reads}
 
 -- the search: the voted row is tested for a code word and for its distance
 module _ (row word : List Bool) (code : Bool) (l : length row ≡ 272) (voting : word ≡ voted row) (tested : code ≡ allZero (remainder generator 190 word)) where
@@ -56,34 +49,68 @@ pub whole-row : (bytes : List ℕ) → length bytes ≡ 34 → rowOf bytes ++ dr
 whole-row bytes l =
     ap (λ xs. rowOf bytes ++ xs) (drop-of-length-le (replicate 272 false) {i = 8 * length bytes} (omega (arith, length-replicate 272 false))) ∙ append-nil (rowOf bytes)
 
--- the refusals of the corrector (room 34) and of the block reader (room 22)
-module _ (room : ℕ) (received before : List ℕ) (answer : Answer) (count : ℕ) where
-  pub wrong-length : (Sized 34 room received before → ⊥) → paper answer ≡ refused 1 → count ≡ 0 → WrongLength room received before before answer count
-  wrong-length h a n = record { wrong = h; answers = a; counts = n; same = refl }
+-- the lengths, tested
+both : (s t : Bool) → (s && t) ≡ true → (s ≡ true) × (t ≡ true)
+both true t e = (refl, e)
+both false t e = absurd (false≢true e)
 
-  pub no-code-word : Sized 34 room received before → NoneNear (rowOf received) → paper answer ≡ refused 2 → count ≡ 0 → NoCodeWord room received before before answer count
-  no-code-word sized none a n = record { sized = sized; none = none; answers = a; counts = n; same = refl }
+pub sized-so : (bytes room : ℕ) (given before : List ℕ) (t : Bool) → t ≡ (eqb (length given) bytes && eqb (length before) room) → t ≡ true
+    → Sized bytes room given before
+sized-so bytes room given before t e h =
+    let b = both (eqb (length given) bytes) (eqb (length before) room) (sym e ∙ h) in
+    record { input = eqb-true _ _ (b .0); output = eqb-true _ _ (b .1) }
 
--- what is packed of a code word: the whole, or its information
-module _ (received before after : List ℕ) (answer : Answer) (count : ℕ) (word : List Bool) (near : Near (rowOf received) word count)
-    (a : paper answer ≡ accepted) (l : length after ≡ length before) (w : rowOf after ≡ take (8 * length before) word) where
-  pub corrected : Sized 34 34 received before → Word received before after answer count
-  corrected sized = record {
-    sized = sized;
-    word = word;
-    found = near;
-    answers = a;
-    long = l ∙ sized .output;
-    written = w ∙ take-all (8 * length before) word (omega (arith, sized .output, code-length word (near .code)));
-  }
+pub not-sized : (bytes room : ℕ) (given before : List ℕ) (t : Bool) → t ≡ (eqb (length given) bytes && eqb (length before) room) → t ≡ false
+    → Sized bytes room given before → ⊥
+not-sized bytes room given before t e h z =
+    false≢true (sym h ∙ e ∙ rw (eq-eqb (length given) bytes (z .input), eq-eqb (length before) room (z .output)))
 
-  pub information : Sized 34 22 received before → CheckRight word → Information received before after answer count
-  information sized right = record {
-    sized = sized;
-    word = word;
-    found = near;
-    right = right;
-    answers = a;
-    long = l ∙ sized .output;
-    given = w ∙ ap (λ (n : ℕ). take (8 * n) word) (sized .output);
-  }
+pub wrong-length : (room : ℕ) (received before : List ℕ) (answer : Answer) (count : ℕ) → (Sized 34 room received before → ⊥)
+    → paper answer ≡ refused 1 → count ≡ 0 → WrongLength room received before before answer count
+wrong-length room received before answer count h a n = record { wrong = h; answers = a; counts = n; same = refl }
+
+-- a word that was found, and whose check bits are wrong
+pub lacking : (near t r : Bool) → r ≡ (near && not t) → r ≡ true → (near ≡ true) × (t ≡ false)
+lacking near t r e h = let b = both near (not t) (sym e ∙ h) in (b .0, not-true t (b .1))
+
+pub not-lacking : (near t r : Bool) → r ≡ (near && not t) → r ≡ false → near ≡ true → t ≡ true
+not-lacking near true r e h n = refl
+not-lacking near false r e h n = absurd (false≢true (sym h ∙ e ∙ ap (λ (b : Bool). b && true) n))
+
+-- what is put of what the search found
+module _ (received before after : List ℕ) (answer : Answer) (count : ℕ) (near : Bool) (word : List Bool) (places : ℕ)
+    (searched : Searched (rowOf received) near word places) (put : Puts near word places before after answer count) (l : length after ≡ length before) where
+  here : near ≡ true → Near (rowOf received) word count
+  here e = subst (λ (n : ℕ). Near (rowOf received) word n) (sym (put .some e .1)) (searched .met e)
+
+  nowhere : (room : ℕ) → Sized 34 room received before → near ≡ false → NoCodeWord room received before after answer count
+  nowhere room sized e = let n = put .none e in record { sized = sized; none = searched .missed e; answers = n .0; counts = n .1; same = n .2 }
+
+  pub corrected : Sized 34 34 received before → Corrects received before after answer count
+  corrected sized = go near refl
+    where
+      go : (b : Bool) → near ≡ b → Corrects received before after answer count
+      go false e = inr (inl (nowhere 34 sized e))
+      go true e = inr (inr (record {
+        sized = sized;
+        word = word;
+        found = here e;
+        answers = put .some e .0;
+        long = l ∙ sized .output;
+        written = put .some e .2 ∙ take-all (8 * length before) word (omega (arith, sized .output, code-length word (here e .code)));
+      }))
+
+  pub informed : Sized 34 22 received before → (near ≡ true → CheckRight word) → Reads received before after answer count
+  informed sized right = go near refl
+    where
+      go : (b : Bool) → near ≡ b → Reads received before after answer count
+      go false e = inr (inl (nowhere 22 sized e))
+      go true e = inr (inr (inr (record {
+        sized = sized;
+        word = word;
+        found = here e;
+        right = right e;
+        answers = put .some e .0;
+        long = l ∙ sized .output;
+        given = put .some e .2 ∙ ap (λ (n : ℕ). take (8 * n) word) (sized .output);
+      })))

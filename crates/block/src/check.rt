@@ -2,33 +2,21 @@
 ghost use mathlib.Core.Path.{_≡_};
 ghost use mathlib.Core.Bool.{false};
 ghost use mathlib.Core.List.{_++_};
-ghost use Prim.Native.Nat.{_+_, _≤_};
+ghost use Prim.Native.Nat.{_+_, _-_, _≤_};
 ghost use lib.ListN.{length, take, drop, replicate};
 ghost use Rattle.gf2.specs.Poly.{allZero, remainder, systematic};
 ghost use Rattle.block.specs.Blocks.{checkDivisor};
 
-// x^14 + x^11 + x^2 + 1 below its leading term, highest power first.
-const CHECK_DIVISOR: [bool; 14] = [
-    false,
-    false,
-    true,
-    false,
-    false,
-    false,
-    false,
-    false,
-    false,
-    false,
-    false,
-    true,
-    false,
-    true,
-];
+// The powers of x^14 + x^11 + x^2 + 1 below its leading term.
+const CHECK_POWERS: [usize; 3] = [11, 2, 0];
 
+// The coefficients of the check's divisor below x^14, highest power first.
 pub(crate) fn divisor() -> [bool; 14]
     ensures { λ r. ⌜ r ≡ checkDivisor ⌝ }
 {
-    CHECK_DIVISOR
+    let mut row = [false; 14];
+    gf2::fill_lower(&CHECK_POWERS, &mut row);
+    row
 }
 
 // Whether the check bits of a row are the check of its information.
@@ -36,10 +24,19 @@ pub(crate) fn holds(row: &[bool; 272]) -> bool
     requires { ⌜ length (now row) ≡ 272 ⌝ }
     ensures { λ r. ⌜ r ≡ allZero (remainder checkDivisor 176 (take 190 (now (row .entry)))) ⌝ }
 {
-    let mut work = *row;
     let low = divisor();
-    gf2::divide(&mut work[..190], &low);
-    gf2::is_zero(&work[176..190])
+    divides(row, 190, &low)
+}
+
+// Whether a divisor divides the leading places of a row, up to `end`.
+pub(crate) fn divides(row: &[bool; 272], end: usize, low: &[bool]) -> bool
+    requires { ⌜ (length (now row) ≡ 272) × (end ≤ 272) × (length (now low) ≤ end) ⌝ }
+    ensures { λ r. ⌜ r ≡ allZero (remainder (now (low .entry)) (end - length (now (low .entry))) (take end (now (row .entry)))) ⌝ }
+{
+    let mut work = *row;
+    let steps = end - low.len();
+    gf2::divide(&mut work[..end], low);
+    gf2::is_zero(&work[steps..end])
 }
 
 // The row with the check of its leading `at` places put behind them, where it has zeros.

@@ -8,6 +8,7 @@ ghost use Rattle.code.specs.Code.{distance, generator};
 ghost use Rattle.code.specs.Vote.{bitAt, checkPositions, paritySum, paritySums, oddSums, voted};
 ghost use Rattle.block.specs.Bytes.{rowOf};
 ghost use Rattle.block.specs.Nearest.{Searched};
+use super::check;
 use super::rows;
 
 // What the search found: with `near` a code word, and in how many places it differs.
@@ -87,10 +88,8 @@ fn is_code_word(row: &[bool; 272]) -> bool
     requires { ⌜ length (now row) ≡ 272 ⌝ }
     ensures { λ r. ⌜ r ≡ allZero (remainder generator 190 (now (row .entry))) ⌝ }
 {
-    let mut work = *row;
     let generator = code::generator_row();
-    gf2::divide(&mut work, &generator);
-    gf2::is_zero(&work[190..])
+    check::divides(row, 272, &generator)
 }
 
 // In how many places two rows differ.

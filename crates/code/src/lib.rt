@@ -5,90 +5,25 @@ ghost use mathlib.Core.Path.{_≡_};
 ghost use Rattle.code.specs.Code.{generator};
 ghost use Rattle.code.specs.Vote.{checkPositions};
 
-// The generator x^82 + x^77 + .. + 1 below its leading term, highest power first.
-const GENERATOR: [bool; 82] = [
-    false,
-    false,
-    false,
-    false,
-    true,
-    true,
-    false,
-    false,
-    false,
-    false,
-    true,
-    false,
-    false,
-    false,
-    true,
-    true,
-    false,
-    false,
-    false,
-    false,
-    false,
-    false,
-    false,
-    false,
-    false,
-    true,
-    false,
-    false,
-    false,
-    true,
-    false,
-    false,
-    false,
-    true,
-    false,
-    false,
-    false,
-    false,
-    false,
-    false,
-    false,
-    true,
-    false,
-    false,
-    false,
-    true,
-    false,
-    true,
-    false,
-    false,
-    false,
-    false,
-    false,
-    false,
-    false,
-    false,
-    false,
-    true,
-    false,
-    true,
-    false,
-    false,
-    false,
-    true,
-    false,
-    false,
-    false,
-    false,
-    false,
-    false,
-    false,
-    true,
-    false,
-    false,
-    false,
-    false,
-    false,
-    true,
-    false,
-    false,
-    false,
-    true,
+// The powers of the generator x^82 + x^77 + .. + 1 below its leading term.
+const GENERATOR_POWERS: [usize; 17] = [
+    77,
+    76,
+    71,
+    67,
+    66,
+    56,
+    52,
+    48,
+    40,
+    36,
+    34,
+    24,
+    22,
+    18,
+    10,
+    4,
+    0,
 ];
 
 // The seventeen residues 1, 2, 4, 8, 16, 32, .. of document 01, each times 67, modulo 273: the positions whose sum is
@@ -113,10 +48,13 @@ const CHECK_POSITIONS: [usize; 17] = [
     226,
 ];
 
+// The generator's coefficients below x^82, highest power first.
 pub fn generator_row() -> [bool; 82]
     ensures { λ r. ⌜ r ≡ generator ⌝ }
 {
-    GENERATOR
+    let mut row = [false; 82];
+    gf2::fill_lower(&GENERATOR_POWERS, &mut row);
+    row
 }
 
 pub fn check_positions() -> [usize; 17]

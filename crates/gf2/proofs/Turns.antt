@@ -1,13 +1,14 @@
 -- One turn of each loop, over plain values: what is done and what is left make the whole. Assumes nothing.
-use mathlib.Core.Path.{_≡_, sym, ap, _∙_}
-use mathlib.Core.Bool.{Bool, true, false}
+use mathlib.Core.Path.{_≡_, refl, sym, ap, _∙_}
+use mathlib.Core.Bool.{Bool, true, false, _||_}
 use mathlib.Core.List.{List, [], _∷_, _++_, append-assoc}
-use Prim.Native.Nat.{ℕ, suc, _+_, _-_, _≤_, _<_}
+use Prim.Native.Nat.{ℕ, zero, suc, _+_, _-_, _≤_, _<_}
 use native.Mathlib.Numerals.{add-one}
 use native.Mathlib.Omega.{arith}
+use lib.Dec.{eqb}
 use lib.ListN.{length, getD, set, take, drop, length-append, length-drop, drop-of-length-le, take-append-drop}
 use lib.Seq.{take-suc, take-suc-set, drop-set-lt, take-at, drop-at, length-take-le}
-use Rattle.gf2.specs.Poly.{_⊕_, scale, add, divided, allZero}
+use Rattle.gf2.specs.Poly.{_⊕_, scale, add, divided, allZero, elem, lower}
 use Rattle.gf2.proofs.Lists.{drop-one}
 use Rattle.gf2.proofs.Remainders.{length-add, scale-true, add-scale-false}
 
@@ -81,3 +82,17 @@ divided-end low row whole i k h inv =
 
 pub zero-place : (row : List Bool) (i : ℕ) (b : Bool) → i < length row → getD row i false ≡ b → allZero (drop i row) ≡ allZero (b ∷ drop (i + 1) row)
 zero-place row i b h e = ap allZero (drop-one row i false h) ∙ ap (λ z. allZero (z ∷ drop (i + 1) row)) e
+
+-- a power more is compared
+pub elem-place : (n : ℕ) (powers : List ℕ) (i : ℕ) (b : Bool) → i < length powers → eqb n (getD powers i 0) ≡ b
+    → elem n (drop i powers) ≡ (b || elem n (drop (i + 1) powers))
+elem-place n powers i b h e = ap (elem n) (drop-one powers i 0 h) ∙ ap (λ t. t || elem n (drop (i + 1) powers)) e
+
+pub length-lower : (n : ℕ) (powers : List ℕ) → length (lower n powers) ≡ n
+length-lower zero powers = refl
+length-lower (suc n) powers = ap suc (length-lower n powers)
+
+pub lower-place : (n : ℕ) (powers : List ℕ) (p : ℕ) → p < n → getD (lower n powers) p false ≡ elem (n - 1 - p) powers
+lower-place zero powers p h = absurd (omega arith)
+lower-place (suc n) powers zero h = ap (λ (k : ℕ). elem k powers) (omega arith)
+lower-place (suc n) powers (suc p) h = lower-place n powers p (omega arith) ∙ ap (λ (k : ℕ). elem k powers) (omega arith)

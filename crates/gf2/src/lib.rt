@@ -3,7 +3,7 @@
 ghost use mathlib.Core.Path.{_≡_};
 ghost use Prim.Native.Nat.{_-_, _≤_};
 ghost use lib.ListN.{length};
-ghost use Rattle.gf2.specs.Poly.{_⊕_, add, divided, allZero};
+ghost use Rattle.gf2.specs.Poly.{_⊕_, add, divided, allZero, elem, lower};
 
 // The sum of two bits.
 pub fn sum(a: bool, b: bool) -> bool
@@ -55,4 +55,28 @@ pub fn is_zero(row: &[bool]) -> bool
         i += 1;
     }
     true
+}
+
+// Fills a row with the coefficients of the polynomial with these powers, below the power that the row is long.
+pub fn fill_lower(powers: &[usize], row: &mut [bool])
+    ensures { λ r. ⌜ now (row .exit) ≡ lower (length (now (row .entry))) (now (powers .entry)) ⌝ }
+{
+    let mut place: usize = 0;
+    while place < row.len() {
+        row[place] = is_among(row.len() - 1 - place, powers);
+        place += 1;
+    }
+}
+
+fn is_among(power: usize, powers: &[usize]) -> bool
+    ensures { λ r. ⌜ r ≡ elem power (now (powers .entry)) ⌝ }
+{
+    let mut i: usize = 0;
+    while i < powers.len() {
+        if powers[i] == power {
+            return true;
+        }
+        i += 1;
+    }
+    false
 }

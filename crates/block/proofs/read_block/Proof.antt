@@ -1,99 +1,77 @@
 -- `block::read_block`: as the corrector, and the code word's check bits. Assumes nothing.
+use Rattle.block.proofs.Outcomes.{sized-so, not-sized, wrong-length, lacking, not-lacking, informed}
 use Rattle.block.proofs.Blocks.{check-tested}
-use Rattle.block.proofs.Outcomes.{wrong-length, no-code-word, information}
 use Rattle.code.proofs.Majority.{code-length}
 use Rattle.answers.specs.Numbers.{paper}
-use lib.ListN.{length}
 use borrow.Author.Tests.{not-true, not-false}
 use native.Mathlib.Omega.{arith}
 use mathlib.Core.Logic.{inl, inr}
 use mathlib.Core.Bool.{false≢true}
-use mathlib.Core.Path.{_≡_, refl, sym, ap, _∙_}
+use mathlib.Core.Path.{refl, sym, ap, _∙_}
+use denote.Ref.{now}
 use borrow.Author.Needs.{needs}
 use Rattle.block.proofs.read_block.Statement.{statement}
 use Rattle.block.proofs.read_block.Tie as tie
+
+sized-requires : tie.Need-sized-requires
+sized-requires c κs = search needs
 
 refused-requires : tie.Need-refused-requires
 refused-requires c κs = search needs
 
 returns : tie.Need-returns
-returns c = inl (wrong-length _ _ _ _ _ (λ z. c .before .if1 .taken (z .input)) (ap paper (c .refused .ensures .0)) (c .refused .ensures .1))
-
-refused-requires-2 : tie.Need-refused-requires-2
-refused-requires-2 c κs = search needs
-
-returns-2 : tie.Need-returns-2
-returns-2 c = inl (wrong-length _ _ _ _ _ (λ z. c .before .if2 .taken (z .output)) (ap paper (c .refused2 .ensures .0)) (c .refused2 .ensures .1))
+returns c = inl (wrong-length _ _ _ _ _ (not-sized 34 22 _ _ _ (c .before .before .sized .ensures) (not-true _ (c .before .if1 .taken))) (ap paper (c .refused .ensures .0)) (c .refused .ensures .1))
 
 nearest-requires : tie.Need-nearest-requires
-nearest-requires c κs = search needs
+nearest-requires c κs =
+    let a = c .before .before .before .before .args in
+    sized-so 34 22 (now (a .received)) (now (a .out)) _ (c .before .sized .ensures) (not-false _ (c .if1 .left)) .input
 
-refused-requires-3 : tie.Need-refused-requires-3
-refused-requires-3 c κs = search needs
+lacks-check-requires : tie.Need-lacks-check-requires
+lacks-check-requires c κs = search needs
 
-returns-3 : tie.Need-returns-3
-returns-3 c =
-    let s = c .before .before .before in
-    inr (inl (no-code-word _ _ _ _ _ (record { input = s .before .before .if1 .left; output = s .before .if2 .left })
-    (s .nearest .ensures .missed (not-true _ (c .before .if3 .taken))) (ap paper (c .refused3 .ensures .0)) (c .refused3 .ensures .1)))
-
-holds-requires : tie.Need-holds-requires
-holds-requires c κs = search needs
-
-returns-4 : tie.Need-returns-4
-returns-4 c =
-    let f = c .before .before .before .before in
-    let s = f .before .before in
-    let near = s .nearest .ensures .met (not-false _ (f .if3 .left)) in
-    let word = s .nearest .result .word in
+returns-2 : tie.Need-returns-2
+returns-2 c =
+    let n = c .before .before .nearest in
+    let w = n .result .word in
+    let k = lacking _ _ _ (c .before .lacks-check .ensures) (c .if2 .taken) in
+    let near = n .ensures .met (k .0) in
     inr (inr (inl (record {
-      sized = record { input = s .before .before .if1 .left; output = s .before .if2 .left };
-      word = word;
+      sized = sized-so 34 22 _ _ _ (c .before .before .before .before .sized .ensures) (not-false _ (c .before .before .before .if1 .left));
+      word = w;
       found = near;
-      wrong = λ r. false≢true (sym (not-true _ (c .if4 .taken)) ∙ c .before .holds .ensures ∙ check-tested word (code-length word (near .code)) .1 r);
+      wrong = λ r. false≢true (sym (k .1) ∙ check-tested w (code-length w (near .code)) .1 r);
       answers = refl;
       same = refl;
     })))
 
-slice-aggregate-pack : tie.Need-slice-aggregate-pack
-slice-aggregate-pack c = search needs
-
-pack-requires : tie.Need-pack-requires
-pack-requires c κs =
-    let f = c .before .before .before .before .before .before in
-    let s = f .before .before in
-    let word : length (s .nearest .result .word) ≡ 272 = code-length _ (s .nearest .ensures .met (not-false _ (f .if3 .left)) .code) in
-    omega (arith, s .before .if2 .left)
+put-word-requires : tie.Need-put-word-requires
+put-word-requires c κs =
+    let a = c .before .before .before .before .before .before .before .before .args in
+    let z = sized-so 34 22 (now (a .received)) (now (a .out)) _ (c .before .before .before .before .before .sized .ensures) (not-false _ (c .before .before .before .before .if1 .left)) in
+    omega (arith, z .output)
 
 same-length : tie.Need-same-length
 same-length c = search needs
 
-returns-5 : tie.Need-returns-5
-returns-5 c =
-    let p = c .before .before in
-    let h = p .before .before .before .before in
-    let f = h .before .before .before in
-    let s = f .before .before in
-    let near = s .nearest .ensures .met (not-false _ (f .if3 .left)) in
-    let word = s .nearest .result .word in
-    inr (inr (inr (information _ _ _ _ _ _ near refl (p .pack .kept .1 .0) (p .pack .ensures)
-    (record { input = s .before .before .if1 .left; output = s .before .if2 .left })
-    (check-tested word (code-length word (near .code)) .0 (sym (h .holds .ensures) ∙ not-false _ (p .before .before .before .if4 .left))))))
+returns-3 : tie.Need-returns-3
+returns-3 c =
+    let n = c .before .before .before .before .before .before .nearest in
+    let w = n .result .word in
+    informed _ _ _ _ _ (n .result .near) w (n .result .count) (n .ensures) (c .before .before .put-word .ensures) (c .before .before .put-word .kept .1 .0)
+    (sized-so 34 22 _ _ _ (c .before .before .before .before .before .before .before .before .sized .ensures) (not-false _ (c .before .before .before .before .before .before .before .if1 .left)))
+    (λ e. check-tested w (code-length w (n .ensures .met e .code)) .0 (not-lacking _ _ _ (c .before .before .before .before .before .lacks-check .ensures) (c .before .before .before .before .if2 .left) e))
 
 pub read-block-spec : {M : Type 1} → statement M
 read-block-spec =
     tie.close
     (tie.spec
+    sized-requires
     refused-requires
     returns
-    refused-requires-2
-    returns-2
     nearest-requires
-    refused-requires-3
-    returns-3
-    holds-requires
-    returns-4
-    slice-aggregate-pack
-    pack-requires
+    lacks-check-requires
+    returns-2
+    put-word-requires
     same-length
-    returns-5)
+    returns-3)
