@@ -1,5 +1,6 @@
-// The corrector in C on 64-bit words: the 273 parity sums are one row, the exclusive or of seventeen rotated rows, and
-// the votes are added up in bit planes. The sums span all checks of the code, so a row is a code word where all are even.
+// Corrector and block reader in C on 64-bit words: the 273 parity sums are one row, the exclusive or of seventeen rotated
+// rows, and the votes are added up in bit planes. The sums span all checks of the code, so a row is a code word where all
+// are even. The check is made by a table, a byte at a time.
 #include "blocks.h"
 
 enum { WORDS = 5 };
@@ -88,4 +89,24 @@ static int correct(const u8 *received, u8 *out) {
     if (odd.w[0] | odd.w[1] | odd.w[2] | odd.w[3] | odd.w[4]) return -1;
     for (int i = 0; i < BYTES; i++) out[i] = row.w[i / 8] >> 8 * (i % 8);
     return changed;
+}
+
+// The remainder of a byte, its first bit lowest, by x^14 + x^11 + x^2 + 1; coefficients too stand with the highest power
+// lowest.
+static u16 rest_of[256];
+
+static void make_rests(void) {
+    for (int byte = 0; byte < 256; byte++) {
+        u16 rest = byte;
+        for (int k = 0; k < 8; k++) rest = rest & 1 ? rest >> 1 ^ 0x2804 : rest >> 1;
+        rest_of[byte] = rest;
+    }
+}
+
+// The check of the information is compared with the 14 bits behind it.
+static int check_holds(const u8 *word) {
+    if (!rest_of[1]) make_rests();
+    u16 rest = 0;
+    for (int i = 0; i < INFORMATION; i++) rest = rest >> 8 ^ rest_of[(rest ^ word[i]) & 0xff];
+    return rest == ((word[22] | word[23] << 8) & 0x3fff);
 }

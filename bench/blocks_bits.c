@@ -1,5 +1,5 @@
-// The corrector in C the way the proved one goes: a byte for each bit, the 273 parity sums once, then a vote at each
-// place; the word is divided by the generator, and the changes are counted.
+// Corrector and block reader in C the way the proved ones go: a byte for each bit, the 273 parity sums once, then a vote
+// at each place; the word is divided by the generator, and the changes are counted. The check is made bit by bit.
 #include "blocks.h"
 
 // The generator's powers below 82.
@@ -41,4 +41,14 @@ static int correct(const u8 *received, u8 *out) {
         for (int j = 0; j < 8; j++) out[i] |= word[8 * i + j] << j;
     }
     return changed;
+}
+
+// The remainder by x^14 + x^11 + x^2 + 1 in a register, the check bits behind the information.
+static int check_holds(const u8 *word) {
+    unsigned rest = 0;
+    for (int p = 0; p < 190; p++) {
+        rest = rest << 1 | (word[p / 8] >> p % 8 & 1);
+        if (rest & 0x4000) rest ^= 0x4805;
+    }
+    return !rest;
 }

@@ -1,0 +1,63 @@
+// bench TASK COUNT: calls a public function on so many records of standard input, from the first again where they end,
+// and writes a sum over all that came of it, so that bench/run can time the function and hold it to C.
+ghost use mathlib.Core.Path.{_≡_};
+ghost use lib.ListN.{length};
+
+mod blocks;
+mod messages;
+mod records;
+mod steps;
+
+use libc::STDIN_FILENO;
+use libc::STDOUT_FILENO;
+use text::Number;
+
+// Room for whole records, whether they have 22, 34 or 264 bytes.
+const ROOM: usize = 1045704;
+
+fn main() {
+    let mut task = [0u8; 16];
+    let mut digits = [0u8; 16];
+    let mut input = room();
+    let task_length = os::arg(1, &mut task);
+    let digits_length = os::arg(2, &mut digits);
+    let count = count_of(&digits[..digits_length]);
+    let length = io::read_full(STDIN_FILENO, &mut input);
+    io::write_all(STDOUT_FILENO, b"sum\t");
+    io::print_decimal(
+        STDOUT_FILENO,
+        take(&task[..task_length], &input[..length], count),
+    );
+    io::write_all(STDOUT_FILENO, b"\n");
+}
+
+// The contract gives the length alone: a proof that sees all of these bytes takes too long.
+fn room() -> [u8; ROOM]
+    ensures { λ r. ⌜ 1045704 ≡ length r ⌝ }
+{
+    [0u8; ROOM]
+}
+
+fn count_of(digits: &[u8]) -> u32 {
+    let number = text::read_number(digits, u32::MAX);
+    match number {
+        Number::Is(count) => count,
+        Number::Unreadable => 0,
+    }
+}
+
+fn take(task: &[u8], input: &[u8], count: u32) -> u64 {
+    if text::same(task, b"correct") {
+        return blocks::take(input, false, count);
+    }
+    if text::same(task, b"read") {
+        return blocks::take(input, true, count);
+    }
+    if text::same(task, b"step") {
+        return steps::take(input, count);
+    }
+    if text::same(task, b"join") {
+        return messages::take(input, count);
+    }
+    0
+}
