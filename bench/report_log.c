@@ -1,12 +1,24 @@
-// The report of a log in C in one pass: every rule of a log is tested, as in the proved program, and the same bytes are
-// written. The log comes in pieces of 64 KiB; a line is judged where it lies, while its end is looked for.
-#include "report.h"
+// The report of a log in C, in one pass: every rule of a log is tested, as in the proved program, and the same bytes are
+// written. The log comes in pieces of 64 KiB; a line is judged where it lies, while its end is looked for. No header of C's
+// library is used.
+typedef unsigned char u8;
+typedef unsigned int u32;
+typedef unsigned long long u64;
+long read(int, void *, unsigned long);
+long write(int, const void *, unsigned long);
+
+enum { LONGEST_LINE = 64, PIECE = 65536, MOST_DIGITS = 6, CHANNELS = 204, BAD_LINE = 12 };
+
+// The channel is 0 before the first line.
+struct counts {
+    u32 channel, slots, read, clean, bits, noword, check, missing;
+};
 
 static const u8 is_outcome[256] = {
     ['0' ... '8'] = 1, ['n'] = 1, ['c'] = 1, ['-'] = 1,
 };
 
-// The channel is 0 before the first line. Each outcome is counted by its own byte, and they are added up at the end.
+// Each outcome is counted by its own byte, and they are added up at the end.
 static u32 channel, slots, seen[256];
 
 // A line that is cut moves to the start, and the next piece comes behind it. Behind the piece a line feed is put that is
@@ -66,6 +78,7 @@ static void count(struct counts *counts) {
     counts->missing = seen['-'];
 }
 
+// Reads the log on standard input to its end: 1 where every line is good, 0 where one is bad, -1 where reading fails.
 static int take_log(struct counts *counts) {
     long held = 0, got;
     while ((got = read(0, buffer + held, PIECE)) > 0) {
@@ -78,4 +91,50 @@ static int take_log(struct counts *counts) {
     }
     count(counts);
     return got < 0 ? -1 : !got && channel && !held;
+}
+
+static char *put_text(char *out, const char *text) {
+    while (*text) *out++ = *text++;
+    return out;
+}
+
+static char *put_number(char *out, u64 n) {
+    char digits[20];
+    int k = 0;
+    do digits[k++] = '0' + n % 10; while (n /= 10);
+    while (k) *out++ = digits[--k];
+    return out;
+}
+
+static char *put_line(char *out, const char *name, u64 n) {
+    out = put_number(put_text(out, name), n);
+    *out++ = '\n';
+    return out;
+}
+
+static char *put_refusal(char *out, const struct counts *counts) {
+    out = put_number(put_text(out, "refused\t"), BAD_LINE);
+    return put_line(out, "\t", counts->channel ? counts->slots + 2 : 1);
+}
+
+static char *put_report(char *out, const struct counts *counts) {
+    out = put_line(out, "khz\t", 87500 + 100 * counts->channel);
+    out = put_line(out, "slots\t", counts->slots);
+    out = put_line(out, "read\t", counts->read);
+    out = put_line(out, "clean\t", counts->clean);
+    out = put_line(out, "bits\t", counts->bits);
+    out = put_line(out, "noword\t", counts->noword);
+    out = put_line(out, "check\t", counts->check);
+    out = put_line(out, "missing\t", counts->missing);
+    if (!counts->read) return put_text(out, "mean\t-\n");
+    return put_line(out, "mean\t", 1000ull * counts->bits / counts->read);
+}
+
+int main(void) {
+    char text[256];
+    struct counts counts = {0};
+    int good = take_log(&counts);
+    if (good < 0) return 1;
+    long length = (good ? put_report(text, &counts) : put_refusal(text, &counts)) - text;
+    return write(1, text, length) == length ? 0 : 1;
 }
