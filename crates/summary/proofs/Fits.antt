@@ -8,7 +8,7 @@ use Rattle.log.specs.declared.Counts.{Counts}
 use Rattle.log.specs.Decimal.{decimal}
 use Rattle.log.proofs.Decimal.{decimal-length}
 use Rattle.log.proofs.Lists.{cond-with}
-use Rattle.summary.specs.Report.{ended, line, frequency, thousandths, reportOf}
+use Rattle.summary.specs.Report.{ended, line, frequency, thousandths, readLines, unreadLines, meanLine, reportOf}
 
 -- a text of at most n bytes
 pub record Short (text : List ℕ) (n : ℕ) : Type 0 where
@@ -33,16 +33,17 @@ mean-short bits read =
     cond-with (λ (l : List ℕ). Short l 20) (eqb read 0) (λ e. record { most = omega arith }) (λ e. number-short (1000 * bits / read))
 
 report-short : (c : Counts) → Short (reportOf c) 241
-unfolding reportOf
+unfolding reportOf readLines unreadLines meanLine
 report-short c =
-    two (line-short _ (number-short (frequency c)))
+    two
+    (two (line-short _ (number-short (frequency c)))
     (two (line-short _ (number-short (c .slots)))
     (two (line-short _ (number-short (c .read)))
-    (two (line-short _ (number-short (c .clean)))
-    (two (line-short _ (number-short (c .bits)))
+    (two (line-short _ (number-short (c .clean))) (line-short _ (number-short (c .bits)))))))
+    (two
     (two (line-short _ (number-short (c .noword)))
-    (two (line-short _ (number-short (c .check)))
-    (two (line-short _ (number-short (c .missing))) (line-short _ (mean-short (c .bits) (c .read))))))))))
+    (two (line-short _ (number-short (c .check))) (line-short _ (number-short (c .missing)))))
+    (line-short _ (mean-short (c .bits) (c .read))))
 
 pub report-fits : (c : Counts) → length (reportOf c) ≤ 384
 report-fits c = omega (arith, report-short c .most)

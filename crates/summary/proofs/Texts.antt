@@ -4,8 +4,8 @@ use mathlib.Core.Path.{_≡_, refl, ap, sym, _∙_}
 use mathlib.Core.List.{List, [], _∷_, _++_, append-assoc, append-nil}
 use native.Mathlib.Numerals.{add-one}
 use native.Mathlib.Omega.{arith}
-use lib.ListN.{length, getD, take, drop, set, length-take, length-append}
-use lib.Seq.{take-all, drop-cons, set-at, take-suc, take-suc-set, take-append-le, length-take-le}
+use lib.ListN.{length, getD, take, set, length-take, length-append}
+use lib.Seq.{take-all, take-suc, take-suc-set, take-append-le, length-take-le}
 use native.Mathlib.Nat.{min-eq-left, min-eq-right}
 use lib.Dec.{leb}
 use borrow.Author.Tests.{leb-true, leb-false}
@@ -64,17 +64,6 @@ grows-all s i h g = grows-same (take-all i s h) g
 -- the whole text, where it fits
 pub grows-whole : {t u : Text} {s : List ℕ} → content t ≡ [] → length s ≤ 384 → Grows t s u → content u ≡ s
 grows-whole {t} {u} {s} e h g = g .text ∙ ap (λ (l : List ℕ). take 384 (l ++ s)) e ∙ take-all 384 s h
-
--- what a copy has done
-pub copied-next : (s d o : List ℕ) (i : ℕ) → i < length s → i < length d → o ≡ take i s ++ drop i d
-    → set o i (getD s i 0) ≡ take (i + 1) s ++ drop (i + 1) d
-copied-next s d o i h k e =
-    let n : length (take i s) ≡ i = length-take-le i s (omega arith) in
-    ap (λ (l : List ℕ). set l i (getD s i 0)) (e ∙ ap (λ (l : List ℕ). take i s ++ l) (drop-cons d i 0 k))
-    ∙ set-at (take i s) (getD d i 0) (drop (suc i) d) (getD s i 0) i n
-    ∙ sym (append-assoc (take i s) (getD s i 0 ∷ []) (drop (suc i) d))
-    ∙ ap (λ (l : List ℕ). l ++ drop (suc i) d) (sym (take-suc s i 0 h))
-    ∙ ap (λ (j : ℕ). take j s ++ drop j d) (sym (add-one i))
 
 take-least : (n : ℕ) (l : List ℕ) (m : ℕ) → length l ≤ m → take (min n m) l ≡ take n l
 take-least n l m h =

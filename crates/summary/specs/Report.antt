@@ -27,18 +27,29 @@ frequency counts = kilohertzOf (record { 0 = counts .channel }) .number
 unfoldable pub thousandths : ℕ → ℕ → List ℕ
 thousandths bits read = cond (eqb read 0) (45 ∷ []) (decimal (1000 * bits / read))
 
--- `khz`, `slots`, `read`, `clean`, `bits`, `noword`, `check`, `missing`, `mean`
-unfoldable pub reportOf : Counts → List ℕ
-reportOf counts =
+-- `khz`, `slots`, `read`, `clean`, `bits`
+unfoldable pub readLines : Counts → List ℕ
+readLines counts =
     line (107 ∷ 104 ∷ 122 ∷ []) (decimal (frequency counts))
     ++ (line (115 ∷ 108 ∷ 111 ∷ 116 ∷ 115 ∷ []) (decimal (counts .slots))
     ++ (line (114 ∷ 101 ∷ 97 ∷ 100 ∷ []) (decimal (counts .read))
     ++ (line (99 ∷ 108 ∷ 101 ∷ 97 ∷ 110 ∷ []) (decimal (counts .clean))
-    ++ (line (98 ∷ 105 ∷ 116 ∷ 115 ∷ []) (decimal (counts .bits))
-    ++ (line (110 ∷ 111 ∷ 119 ∷ 111 ∷ 114 ∷ 100 ∷ []) (decimal (counts .noword))
+    ++ line (98 ∷ 105 ∷ 116 ∷ 115 ∷ []) (decimal (counts .bits)))))
+
+-- `noword`, `check`, `missing`
+unfoldable pub unreadLines : Counts → List ℕ
+unreadLines counts =
+    line (110 ∷ 111 ∷ 119 ∷ 111 ∷ 114 ∷ 100 ∷ []) (decimal (counts .noword))
     ++ (line (99 ∷ 104 ∷ 101 ∷ 99 ∷ 107 ∷ []) (decimal (counts .check))
-    ++ (line (109 ∷ 105 ∷ 115 ∷ 115 ∷ 105 ∷ 110 ∷ 103 ∷ []) (decimal (counts .missing))
-    ++ line (109 ∷ 101 ∷ 97 ∷ 110 ∷ []) (thousandths (counts .bits) (counts .read)))))))))
+    ++ line (109 ∷ 105 ∷ 115 ∷ 115 ∷ 105 ∷ 110 ∷ 103 ∷ []) (decimal (counts .missing)))
+
+-- `mean`
+unfoldable pub meanLine : Counts → List ℕ
+meanLine counts = line (109 ∷ 101 ∷ 97 ∷ 110 ∷ []) (thousandths (counts .bits) (counts .read))
+
+-- the nine lines
+unfoldable pub reportOf : Counts → List ℕ
+reportOf counts = readLines counts ++ (unreadLines counts ++ meanLine counts)
 
 -- What is told of a text that was asked for: the paper's answer, the text's length, and the lent output as it is left.
 pub record Told : Type 0 where

@@ -5,11 +5,10 @@ mod text;
 
 ghost use mathlib.Core.Path.{_≡_};
 ghost use mathlib.Core.Bool.{true, Bool·beq};
-ghost use mathlib.Core.List.{[], _∷_};
 ghost use Rattle.band.specs.Band.{kilohertzOf};
 ghost use Rattle.summary.specs.Summary.{told, summaryOf, summarisedOf};
 ghost use Rattle.summary.specs.Summary.{share as Summary·share};
-ghost use Rattle.summary.specs.Report.{told as Report·told, line, thousandths, reportOf, reportedOf};
+ghost use Rattle.summary.specs.Report.{told as Report·told, readLines, unreadLines, meanLine, reportOf, reportedOf};
 ghost use Rattle.summary.specs.Export.{rowOf, isSummary, exportedOf};
 ghost use Rattle.summary.specs.Building.{content, Grows};
 ghost use Rattle.log.specs.Log.{isCounts};
@@ -115,15 +114,26 @@ pub fn export(counts: Counts, summary: Summary, out: &mut [u8]) -> Written
 fn report_text(counts: Counts) -> Text
     ensures { λ r. ⌜ content r ≡ reportOf counts ⌝ }
 {
-    let khz = text::put_line(text::empty(), b"khz", frequency(counts.channel));
+    let read = put_read(text::empty(), counts);
+    put_mean(put_unread(read, counts), counts)
+}
+
+fn put_read(text: Text, counts: Counts) -> Text
+    ensures { λ r. ⌜ Grows text (readLines counts) r ⌝ }
+{
+    let khz = text::put_line(text, b"khz", frequency(counts.channel));
     let slots = text::put_line(khz, b"slots", counts.slots);
     let read = text::put_line(slots, b"read", counts.read);
     let clean = text::put_line(read, b"clean", counts.clean);
-    let bits = text::put_line(clean, b"bits", counts.bits);
-    let noword = text::put_line(bits, b"noword", counts.noword);
+    text::put_line(clean, b"bits", counts.bits)
+}
+
+fn put_unread(text: Text, counts: Counts) -> Text
+    ensures { λ r. ⌜ Grows text (unreadLines counts) r ⌝ }
+{
+    let noword = text::put_line(text, b"noword", counts.noword);
     let check = text::put_line(noword, b"check", counts.check);
-    let missing = text::put_line(check, b"missing", counts.missing);
-    put_mean(missing, counts.bits, counts.read)
+    text::put_line(check, b"missing", counts.missing)
 }
 
 fn frequency(channel: u8) -> u32
@@ -133,14 +143,14 @@ fn frequency(channel: u8) -> u32
     found.kilohertz.0
 }
 
-fn put_mean(text: Text, bits: u32, read: u32) -> Text
-    ensures { λ r. ⌜ Grows text (line (109 ∷ 101 ∷ 97 ∷ 110 ∷ []) (thousandths bits read)) r ⌝ }
+fn put_mean(text: Text, counts: Counts) -> Text
+    ensures { λ r. ⌜ Grows text (meanLine counts) r ⌝ }
 {
-    let named = text::put_byte(text::put(text, b"mean"), b'\t');
-    if read == 0 {
+    let named = text::put(text, b"mean\t");
+    if counts.read == 0 {
         return text::put(named, b"-\n");
     }
-    let thousandths = 1000 * (bits as u64) / (read as u64);
+    let thousandths = 1000 * (counts.bits as u64) / (counts.read as u64);
     text::put_byte(text::put_number(named, thousandths), b'\n')
 }
 

@@ -80,7 +80,7 @@ pub(crate) fn put_line(text: Text, name: &[u8], number: u32) -> Text
 pub(crate) fn deliver(text: Text, out: &mut [u8]) -> Written
     ensures { λ r. ⌜ told r (now (out .exit)) ≡ written (content text) (now (out .entry)) ⌝ }
 {
-    let bytes = text.bytes;
+    let held = text.bytes;
     let length = least(text.length, ROOM);
     if out.len() < length {
         return Written {
@@ -88,7 +88,7 @@ pub(crate) fn deliver(text: Text, out: &mut [u8]) -> Written
             length: 0,
         };
     }
-    copy(&bytes, length, out);
+    bytes::copy(&held[..length], out);
     Written {
         answer: Answer::Accepted,
         length,
@@ -99,15 +99,4 @@ fn least(a: usize, b: usize) -> usize
     ensures { λ r. ⌜ r ≡ min a b ⌝ }
 {
     if a < b { a } else { b }
-}
-
-fn copy(bytes: &[u8], count: usize, out: &mut [u8])
-    requires { ⌜ (count ≤ length (now bytes)) × (count ≤ length (now out)) ⌝ }
-    ensures { λ _. ⌜ now (out .exit) ≡ take count (now (bytes .entry)) ++ drop count (now (out .entry)) ⌝ }
-{
-    let mut i = 0;
-    while i < count {
-        out[i] = bytes[i];
-        i += 1;
-    }
 }

@@ -1,5 +1,5 @@
 use Rattle.summary.proofs.Texts.{grows-then}
-use Rattle.summary.specs.Report.{line, thousandths}
+use Rattle.summary.specs.Report.{line, thousandths, meanLine}
 use borrow.Author.Tests.{eq-eqb, ne-eqb}
 use borrow.Author.Needs.{needs}
 use Rattle.summary.proofs.put_mean.Statement.{statement}
@@ -11,9 +11,6 @@ slice-aggregate-put c = search needs
 put-requires : tie.Need-put-requires
 put-requires c κs = search needs
 
-put-byte-requires : tie.Need-put-byte-requires
-put-byte-requires c κs = search needs
-
 slice-aggregate-put-2 : tie.Need-slice-aggregate-put-2
 slice-aggregate-put-2 c = search needs
 
@@ -21,11 +18,17 @@ put-requires-2 : tie.Need-put-requires-2
 put-requires-2 c κs = search needs
 
 returns : tie.Need-returns
-unfolding line thousandths
-returns c = rw (eq-eqb (c .before .before .before .before .before .before .args .read) 0 (c .before .before .if1 .taken)) (grows-then (grows-then (c .before .before .before .before .put .ensures) (c .before .before .before .put-byte .ensures)) (c .put2 .ensures))
+unfolding meanLine line thousandths
+returns c = rw (eq-eqb (c .before .before .before .before .before .before .args .counts .read) 0 (c .before .before .if1 .taken)) (grows-then (c .before .before .before .before .put .ensures) (c .put2 .ensures))
+
+cast-thousandths : tie.Need-cast-thousandths
+cast-thousandths c = search needs
 
 mul-thousandths : tie.Need-mul-thousandths
 mul-thousandths c = search needs
+
+cast-thousandths-2 : tie.Need-cast-thousandths-2
+cast-thousandths-2 c = search needs
 
 div-thousandths : tie.Need-div-thousandths
 div-thousandths c = search needs
@@ -33,14 +36,12 @@ div-thousandths c = search needs
 put-number-requires : tie.Need-put-number-requires
 put-number-requires c κs = search needs
 
-put-byte-requires-2 : tie.Need-put-byte-requires-2
-put-byte-requires-2 c κs = search needs
+put-byte-requires : tie.Need-put-byte-requires
+put-byte-requires c κs = search needs
 
 returns-2 : tie.Need-returns-2
-unfolding line thousandths
-returns-2 c =
-    rw (ne-eqb (c .before .before .before .before .before .before .args .read) 0 (c .before .before .if1 .left))
-    (grows-then (grows-then (c .before .before .before .before .put .ensures) (c .before .before .before .put-byte .ensures)) (grows-then (c .before .put-number .ensures) (c .put-byte2 .ensures)))
+unfolding meanLine line thousandths
+returns-2 c = rw (ne-eqb (c .before .before .before .before .before .before .before .before .args .counts .read) 0 (c .before .before .before .before .if1 .left)) (grows-then (c .before .before .before .before .before .before .put .ensures) (grows-then (c .before .put-number .ensures) (c .put-byte .ensures)))
 
 pub put-mean-spec : {M : Type 1} → statement M
 put-mean-spec =
@@ -48,12 +49,13 @@ put-mean-spec =
     (tie.spec
     slice-aggregate-put
     put-requires
-    put-byte-requires
     slice-aggregate-put-2
     put-requires-2
     returns
+    cast-thousandths
     mul-thousandths
+    cast-thousandths-2
     div-thousandths
     put-number-requires
-    put-byte-requires-2
+    put-byte-requires
     returns-2)
