@@ -99,10 +99,6 @@ pub beq-left : (b : Bool) → Bool·beq true b ≡ b
 beq-left true = refl
 beq-left false = refl
 
-pub beq-right : (b : Bool) → Bool·beq false b ≡ not b
-beq-right true = refl
-beq-right false = refl
-
 pub mean-given : (s : Summary) (c : Counts) → s ≡ summaryOf c → isCounts c ≡ true → Measured (s .mean)
 unfolding summaryOf
 mean-given s c e k = subst (λ (t : Summary). Measured (t .mean)) (sym e) (mean-measured c k)
