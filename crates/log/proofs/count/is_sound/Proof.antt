@@ -8,7 +8,7 @@ use Rattle.log.proofs.count.is_sound.Tie as tie
 
 returns : tie.Need-returns
 unfolding isSound
-returns c = let x = c .before .before .args .counts in simp (lt-leb (x .slots) 999999 (omega arith))
+returns c = let x = c .before .before .args .counts in rw (lt-leb (x .slots) 999999 (omega arith))
 
 wide-requires : tie.Need-wide-requires
 wide-requires c κs = search needs
@@ -38,19 +38,19 @@ returns-2 : tie.Need-returns-2
 unfolding isSound
 returns-2 c =
     let x = c .before .before .before .before .before .before .before .before .args .counts in
-    simp (le-leb (x .slots) 999999 (omega arith), ne-eqb (x .slots) (x .read + x .noword + x .check + x .missing) (λ e. omega arith))
+    rw (le-leb (x .slots) 999999 (omega arith), ne-eqb (x .slots) (x .read + x .noword + x .check + x .missing) (λ e. omega arith))
 
 returns-3 : tie.Need-returns-3
 unfolding isSound
 returns-3 c =
     let x = c .before .before .before .before .before .before .before .before .before .before .args .counts in
-    simp (le-leb (x .slots) 999999 (omega arith), eq-eqb (x .slots) (x .read + x .noword + x .check + x .missing) (omega arith), lt-leb (x .clean) (x .read) (omega arith))
+    rw (le-leb (x .slots) 999999 (omega arith), eq-eqb (x .slots) (x .read + x .noword + x .check + x .missing) (omega arith), lt-leb (x .clean) (x .read) (omega arith))
 
 returns-4 : tie.Need-returns-4
 unfolding isSound
 returns-4 c =
     let x = c .before .before .before .before .before .before .before .before .before .before .before .before .before .args .counts in
-    simp (le-leb (x .slots) 999999 (omega arith), eq-eqb (x .slots) (x .read + x .noword + x .check + x .missing) (omega arith), le-leb (x .clean) (x .read) (omega arith), lt-leb (x .read - x .clean) (x .bits) (omega arith))
+    rw (le-leb (x .slots) 999999 (omega arith), eq-eqb (x .slots) (x .read + x .noword + x .check + x .missing) (omega arith), le-leb (x .clean) (x .read) (omega arith), lt-leb (x .read - x .clean) (x .bits) (omega arith))
 
 mul-result : tie.Need-mul-result
 mul-result c = search needs
@@ -59,7 +59,7 @@ returns-5 : tie.Need-returns-5
 unfolding isSound
 returns-5 c =
     let x = c .before .before .before .before .before .before .before .before .before .before .before .before .before .before .args .counts in
-    simp (le-leb (x .slots) 999999 (omega arith), eq-eqb (x .slots) (x .read + x .noword + x .check + x .missing) (omega arith), le-leb (x .clean) (x .read) (omega arith), le-leb (x .read - x .clean) (x .bits) (omega arith))
+    rw (le-leb (x .slots) 999999 (omega arith), eq-eqb (x .slots) (x .read + x .noword + x .check + x .missing) (omega arith), le-leb (x .clean) (x .read) (omega arith), le-leb (x .read - x .clean) (x .bits) (omega arith))
 
 pub is-sound-spec : {M : Type 1} → statement M
 is-sound-spec =
