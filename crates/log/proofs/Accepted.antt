@@ -7,12 +7,13 @@ use native.Mathlib.Omega.{arith}
 use lib.ListN.{length}
 use lib.Dec.{eqb, ltb}
 use borrow.Author.Tests.{eqb-true, eqb-false, ltb-true, le-leb, ne-eqb}
+use Rattle.text.specs.Fields.{sameAs}
 use Rattle.answers.specs.Numbers.{accepted, refused}
 use Rattle.band.specs.Band.{isChannel}
 use Rattle.log.specs.declared.Counts.{Counts}
 use Rattle.log.specs.declared.Reader.{Reader}
 use Rattle.log.specs.declared.Phase.the-variants.{Open, Refused}
-use Rattle.log.specs.Log.{firstLine, slotLine, slotLines, logText, allOutcomes, counted, countsFrom, tuned, same, last, channelUpTo, isNext, judged}
+use Rattle.log.specs.Log.{firstLine, slotLine, slotLines, logText, allOutcomes, counted, countsFrom, tuned, last, channelUpTo, isNext, judged}
 use Rattle.log.specs.Reader.{ToldFed, between, stepOf, run, endedAt, readOf}
 use Rattle.log.proofs.Lists.{by-cases, same-true}
 use Rattle.log.proofs.Lines.{channel-here, channel-next, channel-none}
@@ -130,7 +131,7 @@ pub record Text (line rest : List ℕ) : Type 0 where
 channel-line : (k : ℕ) (line : List ℕ) → (channelUpTo k line ≡ 0 → ⊥) → line ≡ firstLine (channelUpTo k line)
 channel-line zero line h = absurd (h (channel-none 0 line (omega arith)))
 channel-line (suc k) line h =
-    by-cases _ (same line (firstLine (suc k)))
+    by-cases _ (sameAs line (firstLine (suc k)))
     (λ e. same-true line (firstLine (suc k)) e ∙ ap firstLine (sym (channel-here (suc k) line (omega arith) e)))
     (λ e.
     let m : suc k - 1 ≡ k = omega arith in

@@ -8,40 +8,40 @@ use lib.ListN.{length, getD, take, drop, length-append, take-append-drop}
 use lib.Seq.{take-all, length-take-le}
 use lib.Dec.{eqb}
 use borrow.Author.Tests.{eq-eqb}
+use Rattle.text.specs.Fields.{sameAs}
 use Rattle.log.specs.Decimal.{decimal}
-use Rattle.log.specs.Log.{tab, firstLine, slotLine, same, last, channelUpTo}
+use Rattle.log.specs.Log.{tab, firstLine, slotLine, last, channelUpTo}
 use Rattle.log.proofs.Lists.{and-true, same-snoc, same-empty, same-append, same-length, take-last}
 use Rattle.log.proofs.Decimal.{decimal-few, decimal-more}
 
 -- the last digit, and the digits before it
 pub digit-here : (l : List ℕ) (i n : ℕ) → 1 ≤ i → i ≤ length l → 10 ≤ n → n < 10 ^ 20
-    → same (take i l) (decimal n) ≡ (same (take (i - 1) l) (decimal (n / 10)) && eqb (getD l (i - 1) 0) (48 + n % 10))
+    → sameAs (take i l) (decimal n) ≡ (sameAs (take (i - 1) l) (decimal (n / 10)) && eqb (getD l (i - 1) 0) (48 + n % 10))
 digit-here l i n h k m f =
     rw (take-last l i h k, decimal-more n m f) (same-snoc (take (i - 1) l) (decimal (n / 10)) (getD l (i - 1) 0) (48 + n % 10))
 
-pub digits-out : (l : List ℕ) (n : ℕ) → 10 ≤ n → n < 10 ^ 20 → same (take 0 l) (decimal n) ≡ false
+pub digits-out : (l : List ℕ) (n : ℕ) → 10 ≤ n → n < 10 ^ 20 → sameAs (take 0 l) (decimal n) ≡ false
 digits-out l n m f = rw (decimal-more n m f) (same-empty (decimal (n / 10)) (48 + n % 10))
 
-pub one-digit : (l : List ℕ) (i n : ℕ) → i ≡ 1 → i ≤ length l → n < 10 → same (take i l) (decimal n) ≡ eqb (getD l (i - 1) 0) (48 + n)
-unfolding same
+pub one-digit : (l : List ℕ) (i n : ℕ) → i ≡ 1 → i ≤ length l → n < 10 → sameAs (take i l) (decimal n) ≡ eqb (getD l (i - 1) 0) (48 + n)
 one-digit l i n e k m =
     let z : i - 1 ≡ 0 = omega arith in
     rw (take-last l i (omega arith) k, decimal-few n m, z) (same-snoc [] [] (getD l 0 0) (48 + n))
 
-pub more-digits : (l : List ℕ) (i n : ℕ) → (i ≡ 1 → ⊥) → i ≤ length l → n < 10 → same (take i l) (decimal n) ≡ false
+pub more-digits : (l : List ℕ) (i n : ℕ) → (i ≡ 1 → ⊥) → i ≤ length l → n < 10 → sameAs (take i l) (decimal n) ≡ false
 more-digits l i n h k m =
     rw (decimal-few n m) (same-length (take i l) ((48 + n) ∷ []) (λ e. h (sym (length-take-le i l k) ∙ e)))
 
 abbrev pub channelTab : List ℕ
 channelTab = 99 ∷ 104 ∷ 97 ∷ 110 ∷ 110 ∷ 101 ∷ 108 ∷ 9 ∷ []
 
-pub first-parts : (l : List ℕ) (n : ℕ) → 8 ≤ length l → same l (firstLine n) ≡ (same (take 8 l) channelTab && same (drop 8 l) (decimal n))
+pub first-parts : (l : List ℕ) (n : ℕ) → 8 ≤ length l → sameAs l (firstLine n) ≡ (sameAs (take 8 l) channelTab && sameAs (drop 8 l) (decimal n))
 unfolding firstLine
 first-parts l n h =
-    ap (λ (k : List ℕ). same k (channelTab ++ decimal n)) (sym (take-append-drop 8 l))
+    ap (λ (k : List ℕ). sameAs k (channelTab ++ decimal n)) (sym (take-append-drop 8 l))
     ∙ same-append (take 8 l) (drop 8 l) channelTab (decimal n) (length-take-le 8 l h)
 
-pub first-short : (l : List ℕ) (n : ℕ) → length l < 8 → same l (firstLine n) ≡ false
+pub first-short : (l : List ℕ) (n : ℕ) → length l < 8 → sameAs l (firstLine n) ≡ false
 unfolding firstLine
 first-short l n h =
     same-length l (channelTab ++ decimal n) (λ e. omega (arith, e, length-append channelTab (decimal n)))
@@ -56,31 +56,31 @@ line-parts l h =
     (take-last l (length l - 1) (omega arith) (omega arith) ∙ ap (λ (j : ℕ). take j l ++ (getD l j 0 ∷ [])) e)
 
 slot-split : (a : List ℕ) (x z : ℕ) (l : List ℕ) (n : ℕ) → l ≡ (a ++ (x ∷ [])) ++ (z ∷ [])
-    → same l (decimal n ++ (tab ∷ z ∷ [])) ≡ (same a (decimal n) && eqb x tab)
+    → sameAs l (decimal n ++ (tab ∷ z ∷ [])) ≡ (sameAs a (decimal n) && eqb x tab)
 slot-split a x z l n e =
-    ap (λ (k : List ℕ). same k (decimal n ++ (tab ∷ z ∷ []))) e
-    ∙ ap (λ (k : List ℕ). same ((a ++ (x ∷ [])) ++ (z ∷ [])) k) (sym (append-assoc (decimal n) (tab ∷ []) (z ∷ [])))
+    ap (λ (k : List ℕ). sameAs k (decimal n ++ (tab ∷ z ∷ []))) e
+    ∙ ap (λ (k : List ℕ). sameAs ((a ++ (x ∷ [])) ++ (z ∷ [])) k) (sym (append-assoc (decimal n) (tab ∷ []) (z ∷ [])))
     ∙ same-snoc (a ++ (x ∷ [])) (decimal n ++ (tab ∷ [])) z z
-    ∙ ap (λ (t : Bool). same (a ++ (x ∷ [])) (decimal n ++ (tab ∷ [])) && t) (eq-eqb z z refl)
-    ∙ and-true (same (a ++ (x ∷ [])) (decimal n ++ (tab ∷ []))) ∙ same-snoc a (decimal n) x tab
+    ∙ ap (λ (t : Bool). sameAs (a ++ (x ∷ [])) (decimal n ++ (tab ∷ [])) && t) (eq-eqb z z refl)
+    ∙ and-true (sameAs (a ++ (x ∷ [])) (decimal n ++ (tab ∷ []))) ∙ same-snoc a (decimal n) x tab
 
 pub slot-parts : (l : List ℕ) (n : ℕ) → 2 ≤ length l
-    → same l (slotLine n (last l)) ≡ (same (take (length l - 2) l) (decimal n) && eqb (getD l (length l - 2) 0) tab)
+    → sameAs l (slotLine n (last l)) ≡ (sameAs (take (length l - 2) l) (decimal n) && eqb (getD l (length l - 2) 0) tab)
 unfolding slotLine
 slot-parts l n h =
     slot-split (take (length l - 2) l) (getD l (length l - 2) 0) (last l) l n (line-parts l h)
 
-pub slot-short : (l : List ℕ) (n z : ℕ) → length l < 2 → same l (slotLine n z) ≡ false
+pub slot-short : (l : List ℕ) (n z : ℕ) → length l < 2 → sameAs l (slotLine n z) ≡ false
 unfolding slotLine
 slot-short l n z h =
     same-length l (decimal n ++ (tab ∷ z ∷ [])) (λ e. omega (arith, e, length-append (decimal n) (tab ∷ z ∷ [])))
 
-pub channel-here : (n : ℕ) (l : List ℕ) → 1 ≤ n → same l (firstLine n) ≡ true → channelUpTo n l ≡ n
+pub channel-here : (n : ℕ) (l : List ℕ) → 1 ≤ n → sameAs l (firstLine n) ≡ true → channelUpTo n l ≡ n
 unfolding channelUpTo
 channel-here (suc n) l h e = rw e
 channel-here zero l h e = absurd (omega arith)
 
-pub channel-next : (n : ℕ) (l : List ℕ) → 1 ≤ n → same l (firstLine n) ≡ false → channelUpTo n l ≡ channelUpTo (n - 1) l
+pub channel-next : (n : ℕ) (l : List ℕ) → 1 ≤ n → sameAs l (firstLine n) ≡ false → channelUpTo n l ≡ channelUpTo (n - 1) l
 unfolding channelUpTo
 channel-next (suc n) l h e = let z : suc n - 1 ≡ n = omega arith in rw (e, z)
 channel-next zero l h e = absurd (omega arith)

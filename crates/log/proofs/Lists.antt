@@ -1,16 +1,15 @@
 -- Laws of tests, and of texts that are the same. Assumes nothing.
-use Prim.Native.Nat.{ℕ, suc, _+_, _-_, _<_, _≤_}
+use Prim.Native.Nat.{ℕ, suc, _+_, _-_, _≤_}
 use mathlib.Core.Path.{_≡_, refl, ap, sym, _∙_}
 use mathlib.Core.Bool.{Bool, true, false, cond, not, _&&_}
 use mathlib.Core.List.{List, [], _∷_, _++_}
-use native.Mathlib.Numerals.{add-one}
 use native.Mathlib.Omega.{arith}
-use lib.ListN.{length, getD, take, drop, length-drop, drop-of-length-le}
-use lib.Seq.{drop-cons, take-suc, take-all}
+use lib.ListN.{length, getD, take, drop, length-drop}
+use lib.Seq.{take-suc, take-all}
 use lib.Dec.{eqb}
 use borrow.Author.Tests.{eqb-true, eq-eqb}
+use Rattle.text.specs.Fields.{sameAs}
 use Rattle.band.proofs.Laws.{and-both}
-use Rattle.log.specs.Log.{same}
 
 pub cond-with {ℓ} : {A : Type ℓ} (P : A → Type 0) (t : Bool) {x y : A} → (t ≡ true → P x) → (t ≡ false → P y) → P (cond t x y)
 cond-with P true f g = f refl
@@ -36,29 +35,25 @@ pub not-true : (t : Bool) → not t ≡ true → t ≡ false
 not-true true e = sym e
 not-true false e = refl
 
-same-none : (a : List ℕ) (x : ℕ) → same [] (a ++ (x ∷ [])) ≡ false
-unfolding same
+same-none : (a : List ℕ) (x : ℕ) → sameAs [] (a ++ (x ∷ [])) ≡ false
 same-none [] x = refl
 same-none (b ∷ a) x = refl
 
-none-same : (a : List ℕ) (x : ℕ) → same (a ++ (x ∷ [])) [] ≡ false
-unfolding same
+none-same : (a : List ℕ) (x : ℕ) → sameAs (a ++ (x ∷ [])) [] ≡ false
 none-same [] x = refl
 none-same (b ∷ a) x = refl
 
 -- texts are compared from the last byte on
-pub same-snoc : (a b : List ℕ) (x y : ℕ) → same (a ++ (x ∷ [])) (b ++ (y ∷ [])) ≡ (same a b && eqb x y)
-unfolding same
+pub same-snoc : (a b : List ℕ) (x y : ℕ) → sameAs (a ++ (x ∷ [])) (b ++ (y ∷ [])) ≡ (sameAs a b && eqb x y)
 same-snoc [] [] x y = and-true (eqb x y)
 same-snoc [] (c ∷ b) x y = ap (λ (t : Bool). eqb x c && t) (same-none b y) ∙ and-false (eqb x c)
 same-snoc (c ∷ a) [] x y = ap (λ (t : Bool). eqb c y && t) (none-same a x) ∙ and-false (eqb c y)
-same-snoc (c ∷ a) (d ∷ b) x y = ap (λ (t : Bool). eqb c d && t) (same-snoc a b x y) ∙ and-assoc (eqb c d) (same a b) (eqb x y)
+same-snoc (c ∷ a) (d ∷ b) x y = ap (λ (t : Bool). eqb c d && t) (same-snoc a b x y) ∙ and-assoc (eqb c d) (sameAs a b) (eqb x y)
 
-pub same-empty : (a : List ℕ) (x : ℕ) → same [] (a ++ (x ∷ [])) ≡ false
+pub same-empty : (a : List ℕ) (x : ℕ) → sameAs [] (a ++ (x ∷ [])) ≡ false
 same-empty a x = same-none a x
 
-pub same-append : (a b c d : List ℕ) → length a ≡ length c → same (a ++ b) (c ++ d) ≡ (same a c && same b d)
-unfolding same
+pub same-append : (a b c d : List ℕ) → length a ≡ length c → sameAs (a ++ b) (c ++ d) ≡ (sameAs a c && sameAs b d)
 same-append [] b [] d e = refl
 same-append [] b (y ∷ c) d e = absurd (differ (length c) e)
   where
@@ -70,28 +65,17 @@ same-append (x ∷ a) b [] d e = absurd (differ (length a) e)
     differ n e = omega arith
 same-append (x ∷ a) b (y ∷ c) d e =
     let l : length a ≡ length c = omega arith in
-    ap (λ (t : Bool). eqb x y && t) (same-append a b c d l) ∙ and-assoc (eqb x y) (same a c) (same b d)
+    ap (λ (t : Bool). eqb x y && t) (same-append a b c d l) ∙ and-assoc (eqb x y) (sameAs a c) (sameAs b d)
 
-pub same-refl : (a : List ℕ) → same a a ≡ true
-unfolding same
+pub same-refl : (a : List ℕ) → sameAs a a ≡ true
 same-refl [] = refl
 same-refl (x ∷ a) = rw (eq-eqb x x refl) (same-refl a)
 
-pub same-length : (a b : List ℕ) → (length a ≡ length b → ⊥) → same a b ≡ false
-unfolding same
+pub same-length : (a b : List ℕ) → (length a ≡ length b → ⊥) → sameAs a b ≡ false
 same-length [] [] h = absurd (h refl)
 same-length [] (b ∷ bs) h = refl
 same-length (a ∷ xs) [] h = refl
 same-length (a ∷ xs) (b ∷ bs) h = rw (same-length xs bs (λ e. h (ap suc e))) (and-false (eqb a b))
-
-pub same-here : (a b : List ℕ) (i : ℕ) → i < length a → i < length b
-    → same (drop i a) (drop i b) ≡ (eqb (getD a i 0) (getD b i 0) && same (drop (i + 1) a) (drop (i + 1) b))
-unfolding same
-same-here a b i h k = rw (add-one i, drop-cons a i 0, drop-cons b i 0)
-
-pub same-end : (a b : List ℕ) (i : ℕ) → length a ≤ i → length b ≤ i → same (drop i a) (drop i b) ≡ true
-unfolding same
-same-end a b i h k = rw (drop-of-length-le a h, drop-of-length-le b k)
 
 -- the last byte of a part
 pub take-last : (l : List ℕ) (i : ℕ) → 1 ≤ i → i ≤ length l → take i l ≡ take (i - 1) l ++ (getD l (i - 1) 0 ∷ [])
@@ -102,13 +86,12 @@ take-last l i h k =
 pub tail-part : (n : ℕ) (l : List ℕ) → n ≤ length l → take (length l - n) (drop n l) ≡ drop n l
 tail-part n l h = take-all (length l - n) (drop n l) (rw length-drop (omega arith))
 
-pub same-true : (a b : List ℕ) → same a b ≡ true → a ≡ b
-unfolding same
+pub same-true : (a b : List ℕ) → sameAs a b ≡ true → a ≡ b
 same-true [] [] e = refl
 same-true [] (y ∷ b) e = let z : _≡_ {A = ℕ} 0 1 = cc in absurd (omega arith)
 same-true (x ∷ a) [] e = let z : _≡_ {A = ℕ} 0 1 = cc in absurd (omega arith)
 same-true (x ∷ a) (y ∷ b) e =
-    let r = and-both (eqb x y) (same a b) e in
+    let r = and-both (eqb x y) (sameAs a b) e in
     let p = eqb-true x y (r .0) in
     let q = same-true a b (r .1) in
     cc

@@ -7,10 +7,11 @@ use native.Mathlib.Omega.{arith}
 use lib.ListN.{length}
 use lib.Dec.{eqb, ltb}
 use borrow.Author.Tests.{le-leb, eqb-true, ltb-true, ne-eqb}
+use Rattle.text.specs.Fields.{sameAs}
 use Rattle.band.specs.Band.{isChannel}
 use Rattle.band.proofs.Laws.{and-both, within}
 use Rattle.log.specs.declared.Counts.{Counts}
-use Rattle.log.specs.Log.{isCorrected, isOutcome, one, counted, tuned, isSound, channelUpTo, firstLine, same, slotLine, last, isNext, judged}
+use Rattle.log.specs.Log.{isCorrected, isOutcome, one, counted, tuned, isSound, channelUpTo, firstLine, slotLine, last, isNext, judged}
 use Rattle.log.specs.Reader.{isBefore}
 use Rattle.log.proofs.Lists.{cond-with, by-cases}
 use Rattle.log.proofs.Sound.{Sound, sound, sound-is}
@@ -103,12 +104,12 @@ counted-sound =
 pub record Next (slots : ℕ) (line : List ℕ) : Type 0 where
   pub few : slots < 999999
   pub outcome : isOutcome (last line) ≡ true
-  pub text : same line (slotLine (slots + 1) (last line)) ≡ true
+  pub text : sameAs line (slotLine (slots + 1) (last line)) ≡ true
 
 pub next : (slots : ℕ) (line : List ℕ) → isNext slots line ≡ true → Next slots line
 unfolding isNext
 next n l e =
-    let a = and-both (ltb n 999999 && isOutcome (last l)) (same l (slotLine (n + 1) (last l))) e in
+    let a = and-both (ltb n 999999 && isOutcome (last l)) (sameAs l (slotLine (n + 1) (last l))) e in
     let b = and-both (ltb n 999999) (isOutcome (last l)) (a .0) in
     record { few = ltb-true n 999999 (b .0); outcome = b .1; text = a .1 }
 
@@ -117,7 +118,7 @@ unfolding channelUpTo
 channel-most zero l = omega arith
 channel-most (suc n) l =
     let r = channel-most n l in
-    cond-with (λ (k : ℕ). k ≤ suc n) (same l (firstLine (suc n))) (λ e. omega arith) (λ e. omega arith)
+    cond-with (λ (k : ℕ). k ≤ suc n) (sameAs l (firstLine (suc n))) (λ e. omega arith) (λ e. omega arith)
 
 tuned-before : (n : ℕ) → n ≤ 204 → isBefore (tuned n) ≡ true
 unfolding isBefore isSound
@@ -150,8 +151,8 @@ judged-before c l e =
 
 pub next-long : (slots : ℕ) (line : List ℕ) → isNext slots line ≡ true → 1 ≤ length line
 next-long n [] e =
-    let f : same [] (slotLine (n + 1) 0) ≡ false = slot-short [] (n + 1) 0 (omega arith) in
-    let t : same [] (slotLine (n + 1) 0) ≡ true = next n [] e .text in
+    let f : sameAs [] (slotLine (n + 1) 0) ≡ false = slot-short [] (n + 1) 0 (omega arith) in
+    let t : sameAs [] (slotLine (n + 1) 0) ≡ true = next n [] e .text in
     let b : true ≡ false = sym t ∙ f in
     let z : _≡_ {A = ℕ} 0 1 = cc in
     absurd (omega arith)

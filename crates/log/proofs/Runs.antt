@@ -9,12 +9,13 @@ use lib.ListN.{length, getD, drop, set, replicate, length-append, length-drop, t
 use lib.Seq.{drop-cons, take-append-seam, set-append-seam, drop-append-seam, length-take-le}
 use lib.Dec.{eqb, ltb}
 use borrow.Author.Tests.{lt-ltb, leb-true, le-leb, eqb-true, eqb-false, ltb-true}
+use Rattle.text.specs.Fields.{sameAs}
 use Rattle.band.proofs.Laws.{and-both}
 use Rattle.log.specs.declared.Counts.{Counts}
 use Rattle.log.specs.declared.Reader.{Reader}
 use Rattle.log.specs.declared.Phase.{Phase}
 use Rattle.log.specs.declared.Phase.the-variants.{Open, Refused, Ended}
-use Rattle.log.specs.Log.{isSound, same, judged}
+use Rattle.log.specs.Log.{isSound, judged}
 use Rattle.log.specs.Reader.{between, fresh, lineOf, afterLine, holding, openStep, isOpen, stepOf, run, isPlain, isHeld, isHolding, isBefore, isReader}
 use Rattle.log.proofs.Lists.{not-true, cond-with, by-cases, same-refl, same-true}
 use Rattle.log.proofs.Plain.{plain-none, plain-append, plain-one, plain-tail}
@@ -100,7 +101,7 @@ unfolding isReader isHeld
 ruled s e =
     let a = and-both (isHolding (s .phase) (s .length) && isHeld (s .held) (s .length)) (isBefore (s .counts)) e in
     let b = and-both (isHolding (s .phase) (s .length)) (isHeld (s .held) (s .length)) (a .0) in
-    let d = and-both (isPlain (lineOf s)) (same (drop (s .length) (s .held)) (drop (s .length) zeros)) (b .1) in
+    let d = and-both (isPlain (lineOf s)) (sameAs (drop (s .length) (s .held)) (drop (s .length) zeros)) (b .1) in
     record { holding = b .0; plain = d .0; clear = same-true _ _ (d .1); before = a .1 }
 
 pub ruled-is : (s : Reader) → Ruled s → isReader s ≡ true
@@ -191,5 +192,5 @@ run-kept s [] k = k
 run-kept s (b ∷ bs) k = run-kept (stepOf s b) bs (step-kept s b k)
 
 pub fresh-kept : Kept fresh
-unfolding isReader isHeld isPlain same isBefore isSound
+unfolding isReader isHeld isPlain isBefore isSound
 fresh-kept = (refl, refl)

@@ -8,6 +8,7 @@ use lib.ListN.{length, getD, drop, length-append}
 use lib.Seq.{getD-append-add, drop-append-seam}
 use lib.Dec.{eqb, leb}
 use borrow.Author.Tests.{lt-ltb, ne-eqb, leb-true, leb-false}
+use Rattle.text.specs.Fields.{sameAs}
 use Rattle.answers.specs.Numbers.{accepted}
 use Rattle.band.specs.Band.{isChannel}
 use Rattle.band.proofs.Laws.{and-both, in-range}
@@ -16,7 +17,7 @@ use Rattle.log.specs.declared.Judged.{Judged}
 use Rattle.log.specs.declared.Reader.{Reader}
 use Rattle.log.specs.declared.Phase.the-variants.{Open}
 use Rattle.log.specs.Decimal.{decimal}
-use Rattle.log.specs.Log.{tab, firstLine, slotLine, isOutcome, slotLines, logText, allOutcomes, counted, countsFrom, tuned, same, last, channelUpTo, isNext, judged}
+use Rattle.log.specs.Log.{tab, firstLine, slotLine, isOutcome, slotLines, logText, allOutcomes, counted, countsFrom, tuned, last, channelUpTo, isNext, judged}
 use Rattle.log.specs.Reader.{between, fresh, afterLine, run, endedAt, wholeOf, readOf, isPlain, isBefore}
 use Rattle.log.proofs.Lists.{by-cases, same-refl, same-true}
 use Rattle.log.proofs.Decimal.{decimal-length, decimal-plain, decimal-once}
@@ -31,12 +32,12 @@ first-once m n h k e =
     decimal-once m n (omega arith) (omega arith)
     (sym (drop-append-seam channelTab (decimal m)) ∙ ap (drop 8) e ∙ drop-append-seam channelTab (decimal n))
 
-not-last : (k n : ℕ) → n ≤ suc k → same (firstLine n) (firstLine (suc k)) ≡ false → n ≤ k
+not-last : (k n : ℕ) → n ≤ suc k → sameAs (firstLine n) (firstLine (suc k)) ≡ false → n ≤ k
 not-last k n h e =
     by-cases _ (leb n k) (leb-true n k)
     (λ f.
     let i : n ≡ suc k = omega (arith, leb-false n k f) in
-    let t : same (firstLine n) (firstLine (suc k)) ≡ true = ap (λ (j : ℕ). same (firstLine n) (firstLine j)) (sym i) ∙ same-refl (firstLine n) in
+    let t : sameAs (firstLine n) (firstLine (suc k)) ≡ true = ap (λ (j : ℕ). sameAs (firstLine n) (firstLine j)) (sym i) ∙ same-refl (firstLine n) in
     let b : true ≡ false = sym t ∙ e in
     let z : _≡_ {A = ℕ} 0 1 = cc in
     absurd (omega arith))
@@ -45,7 +46,7 @@ not-last k n h e =
 pub channel-found : (k n : ℕ) → 1 ≤ n → n ≤ k → k ≤ 204 → channelUpTo k (firstLine n) ≡ n
 channel-found zero n o h m = absurd (omega arith)
 channel-found (suc k) n o h m =
-    by-cases _ (same (firstLine n) (firstLine (suc k)))
+    by-cases _ (sameAs (firstLine n) (firstLine (suc k)))
     (λ e. channel-here (suc k) (firstLine n) (omega arith) e ∙ sym (first-once n (suc k) (omega arith) m (same-true _ _ e)))
     (λ e.
     let z : suc k - 1 ≡ k = omega arith in

@@ -4,6 +4,7 @@ use mathlib.Core.Bool.{Bool, true, false, cond, not, _&&_, _||_}
 use mathlib.Core.List.{List, [], _∷_, _++_}
 use lib.ListN.{length, getD}
 use lib.Dec.{ltb, leb, eqb}
+use Rattle.text.specs.Fields.{sameAs}
 use Rattle.band.specs.Band.{isChannel}
 use Rattle.log.specs.declared.Counts.{Counts}
 use Rattle.log.specs.declared.Judged.{Judged}
@@ -91,24 +92,17 @@ isCounts counts = isChannel (counts .channel) && isSound counts
 
 -- ---- a line, judged
 
--- the same bytes in the same order
-unfoldable pub same : List ℕ → List ℕ → Bool
-same [] [] = true
-same [] (b ∷ bs) = false
-same (a ∷ xs) [] = false
-same (a ∷ xs) (b ∷ bs) = eqb a b && same xs bs
-
 abbrev pub last : List ℕ → ℕ
 last line = getD line (length line - 1) 0
 
 -- the channel up to n whose first line this is, or 0
 unfoldable pub channelUpTo : ℕ → List ℕ → ℕ
 channelUpTo zero line = 0
-channelUpTo (suc n) line = cond (same line (firstLine (suc n))) (suc n) (channelUpTo n line)
+channelUpTo (suc n) line = cond (sameAs line (firstLine (suc n))) (suc n) (channelUpTo n line)
 
 -- the line of the next slot, which is at most 999,999
 unfoldable pub isNext : ℕ → List ℕ → Bool
-isNext slots line = ltb slots 999999 && isOutcome (last line) && same line (slotLine (slots + 1) (last line))
+isNext slots line = ltb slots 999999 && isOutcome (last line) && sameAs line (slotLine (slots + 1) (last line))
 
 abbrev pub judgedFirst : ℕ → Judged
 judgedFirst channel = record { good = not (eqb channel 0); counts = tuned channel }

@@ -4,6 +4,7 @@ use mathlib.Core.Bool.{Bool, true, false, cond, not, _&&_}
 use mathlib.Core.List.{List, [], _∷_}
 use lib.ListN.{take, drop, set, replicate}
 use lib.Dec.{ltb, leb, eqb}
+use Rattle.text.specs.Fields.{sameAs}
 use Rattle.answers.specs.Numbers.{Paper, accepted, refused, paper}
 use Rattle.band.specs.Band.{isChannel}
 use Rattle.log.specs.declared.Counts.{Counts}
@@ -13,7 +14,7 @@ use Rattle.log.specs.declared.Phase.the-variants.{Open, Refused, Ended}
 use Rattle.log.specs.declared.Reader.{Reader}
 use Rattle.log.specs.declared.Fed.{Fed}
 use Rattle.log.specs.declared.LogRead.{LogRead}
-use Rattle.log.specs.Log.{lineFeed, tuned, isSound, same, judged}
+use Rattle.log.specs.Log.{lineFeed, tuned, isSound, judged}
 
 -- What is told of a log: the paper's answer, the number of the line that was refused or 0, and the counts before that line or of all.
 pub record Told : Type 0 where
@@ -112,7 +113,7 @@ isPlain (b ∷ bs) = not (eqb b lineFeed) && isPlain bs
 
 -- no line feed among the bytes held, and zeros after them
 unfoldable pub isHeld : List ℕ → ℕ → Bool
-isHeld held n = isPlain (take n held) && same (drop n held) (drop n (replicate 63 0))
+isHeld held n = isPlain (take n held) && sameAs (drop n held) (drop n (replicate 63 0))
 
 abbrev pub isHolding : Phase → ℕ → Bool
 isHolding Open length = leb length 63

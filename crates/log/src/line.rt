@@ -4,7 +4,7 @@ ghost use mathlib.Core.Bool.{true};
 ghost use Prim.Native.Nat.{_≤_};
 ghost use Rattle.log.specs.Decimal.{decimal};
 ghost use Rattle.log.specs.Log.{firstLine, channelUpTo, isNext, isSound, judged};
-ghost use Rattle.log.specs.Log.{same as Log·same};
+ghost use Rattle.text.specs.Fields.{sameAs};
 use crate::Counts;
 use crate::GREATEST_SLOT;
 use crate::Judged;
@@ -52,12 +52,12 @@ fn channel_of(line: &[u8]) -> u8
 
 // Whether this is `channel`, a tab and the channel's number.
 fn is_first(line: &[u8], channel: u8) -> bool
-    ensures { λ r. ⌜ r ≡ Log·same (now (line .entry)) (firstLine channel) ⌝ }
+    ensures { λ r. ⌜ r ≡ sameAs (now (line .entry)) (firstLine channel) ⌝ }
 {
     if line.len() < 8 {
         return false;
     }
-    if same(&line[..8], b"channel\t") {
+    if text::same(&line[..8], b"channel\t") {
         return spells(&line[8..], channel as u32);
     }
     false
@@ -85,7 +85,7 @@ fn is_next(slots: u32, line: &[u8]) -> bool
 
 // Whether the text is the number in decimal, compared from the last digit on.
 fn spells(text: &[u8], number: u32) -> bool
-    ensures { λ r. ⌜ r ≡ Log·same (now (text .entry)) (decimal number) ⌝ }
+    ensures { λ r. ⌜ r ≡ sameAs (now (text .entry)) (decimal number) ⌝ }
 {
     let mut rest = number;
     let mut i = text.len();
@@ -103,20 +103,4 @@ fn spells(text: &[u8], number: u32) -> bool
         return false;
     }
     text[i - 1] == 48 + rest as u8
-}
-
-pub(crate) fn same(a: &[u8], b: &[u8]) -> bool
-    ensures { λ r. ⌜ r ≡ Log·same (now (a .entry)) (now (b .entry)) ⌝ }
-{
-    if a.len() != b.len() {
-        return false;
-    }
-    let mut i = 0;
-    while i < a.len() {
-        if a[i] != b[i] {
-            return false;
-        }
-        i += 1;
-    }
-    true
 }

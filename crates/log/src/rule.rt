@@ -7,7 +7,6 @@ use crate::Counts;
 use crate::Phase;
 use crate::Reader;
 use crate::count;
-use crate::line;
 use crate::machine;
 
 pub(crate) fn is_reader(reader: Reader) -> bool
@@ -43,7 +42,7 @@ fn is_held(held: &[u8], count: usize) -> bool
 {
     let zeros = [0u8; 63];
     if machine::line_end(&held[..count], 0) == count {
-        return line::same(&held[count..], &zeros[count..]);
+        return text::same(&held[count..], &zeros[count..]);
     }
     false
 }

@@ -1,6 +1,6 @@
+use Rattle.text.specs.Fields.{sameAs}
 use Rattle.log.proofs.Lines.{first-parts, first-short}
 use Rattle.log.proofs.Lists.{tail-part}
-use Rattle.log.specs.Log.{same}
 use Rattle.log.specs.Decimal.{decimal}
 use Prim.Native.Nat.{ℕ}
 use mathlib.Core.List.{List}
@@ -39,7 +39,7 @@ spells-requires c κs = search needs
 returns-2 : tie.Need-returns-2
 returns-2 c =
     let l = now (c .before .before .before .before .before .before .before .before .args .line) in
-    c .spells .ensures ∙ ap (λ (k : List ℕ). same k (decimal (c .before .before .before .before .before .before .before .before .args .channel))) (tail-part 8 l (omega arith))
+    c .spells .ensures ∙ ap (λ (k : List ℕ). sameAs k (decimal (c .before .before .before .before .before .before .before .before .args .channel))) (tail-part 8 l (omega arith))
     ∙ sym (first-parts l (c .before .before .before .before .before .before .before .before .args .channel) (omega arith) ∙ rw (sym (c .before .before .before .same .ensures) ∙ c .before .before .if2 .taken))
 
 returns-3 : tie.Need-returns-3

@@ -1,6 +1,6 @@
+use Rattle.text.specs.Fields.{sameAs}
 use Rattle.log.proofs.Lines.{digit-here, digits-out, one-digit, more-digits}
 use Rattle.log.proofs.Lists.{and-false, and-true}
-use Rattle.log.specs.Log.{same}
 use Rattle.log.specs.Decimal.{decimal}
 use Prim.Native.Nat.{ℕ, _≤_, _<_, _^_}
 use mathlib.Core.Path.{_≡_, sym, _∙_, ap}
@@ -13,7 +13,7 @@ use Rattle.log.proofs.line.spells.Statement.{statement}
 use Rattle.log.proofs.line.spells.Tie as tie
 
 abbrev Inv-loop : tie.InvT-loop
-Inv-loop text number rest₀ i₀ rest i = (i ≤ length text) × (rest < 10 ^ 20) × (same text (decimal number) ≡ same (take i text) (decimal rest))
+Inv-loop text number rest₀ i₀ rest i = (i ≤ length text) × (rest < 10 ^ 20) × (sameAs text (decimal number) ≡ sameAs (take i text) (decimal rest))
 
 abbrev μ-loop : tie.MeasureT-loop
 μ-loop text number rest₀ i₀ rest i = rest
@@ -24,7 +24,7 @@ loop-holds c = (omega arith, omega (arith, c .fits .number .fits), rw (take-all 
 returns : tie.Need-returns Inv-loop μ-loop
 returns c =
     let p = c .before .before .loop in let t = now (c .before .before .before .args .text) in
-    sym (p .inv .2 ∙ ap (λ (j : ℕ). same (take j t) (decimal (p .rest))) (c .if1 .taken) ∙ digits-out t (p .rest) (omega arith) (omega arith))
+    sym (p .inv .2 ∙ ap (λ (j : ℕ). sameAs (take j t) (decimal (p .rest))) (c .if1 .taken) ∙ digits-out t (p .rest) (omega arith) (omega arith))
 
 sub-i : tie.Need-sub-i Inv-loop μ-loop
 sub-i c = omega arith

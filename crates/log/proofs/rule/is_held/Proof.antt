@@ -1,8 +1,8 @@
 use Prim.Native.Nat.{_-_, ℕ}
+use Rattle.text.specs.Fields.{sameAs}
 use Rattle.log.proofs.Runs.{zeros}
 use Rattle.log.proofs.Plain.{held-plain, held-not-plain}
 use Rattle.log.proofs.Lists.{tail-part}
-use Rattle.log.specs.Log.{same}
 use Rattle.log.specs.Reader.{isHeld}
 use mathlib.Core.List.{List}
 use mathlib.Core.Path.{sym, _∙_, ap}
@@ -45,8 +45,8 @@ returns : tie.Need-returns
 unfolding isHeld
 returns c =
     let l = now (c .before .before .before .before .before .before .before .before .args .held) in let n = c .before .before .before .before .before .before .before .before .args .count in
-    c .same .ensures ∙ ap (λ (k : List ℕ). same k (take (63 - n) (drop n zeros))) (tail-part n l (omega (arith, c .before .before .before .before .before .before .before .before .pre .0, c .before .before .before .before .before .before .before .before .pre .1)))
-    ∙ ap (λ (k : List ℕ). same (drop n l) k) (tail-part n zeros (c .before .before .before .before .before .before .before .before .pre .1))
+    c .same .ensures ∙ ap (λ (k : List ℕ). sameAs k (take (63 - n) (drop n zeros))) (tail-part n l (omega (arith, c .before .before .before .before .before .before .before .before .pre .0, c .before .before .before .before .before .before .before .before .pre .1)))
+    ∙ ap (λ (k : List ℕ). sameAs (drop n l) k) (tail-part n zeros (c .before .before .before .before .before .before .before .before .pre .1))
     ∙ sym (rw (held-plain l n (c .before .before .before .before .before .line-end .result) (omega (arith, c .before .before .before .before .before .before .before .before .pre .0, c .before .before .before .before .before .before .before .before .pre .1)) (c .before .before .before .before .before .line-end .ensures) (c .before .before .before .before .if1 .taken)))
 
 returns-2 : tie.Need-returns-2

@@ -1,7 +1,8 @@
 use denote.Ref.{now}
 use borrow.Author.Tests.{ne-eqb, eqb-true}
 use mathlib.Core.Path.{sym, _∙_, subst}
-use Prim.Native.Nat.{ℕ}
+use Prim.Native.Nat.{ℕ, _+_, _≤_}
+use lib.ListN.{length}
 use Rattle.log.specs.Machine.{Reads}
 use Rattle.band.proofs.Laws.{and-both}
 use Rattle.log.proofs.Outcomes.{before-sound}
@@ -47,9 +48,10 @@ returns-5 c =
     let a = c .before .before .before .before .before .before .before .before .before .before .before .before .before .args in
     let l = now (a .piece) in
     let d = c .before .before .before .before .before .before .digits-at in
+    let w : d .result .end + 2 ≤ length l = omega (arith, d .ensures .short) in
     let t = and-both _ _ (sym (c .before .before .is-tail .ensures) ∙ c .before .if5 .taken) in
     let u = and-both _ _ (t .0) in (
-      omega (arith, d .ensures .short),
+      w,
       λ h. next-slot (a .counts) l (a .from) (d .result .end)
           (subst (λ (n : ℕ). Reads l (a .from) (d .result .end) n) (c .before .before .before .if4 .left) (d .ensures))
           (ne-eqb _ _ (c .before .before .before .before .before .before .before .before .before .before .if1 .left)) h (eqb-true _ _ (u .0)) (t .1) (eqb-true _ _ (u .1)),
