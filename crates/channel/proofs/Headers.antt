@@ -3,7 +3,7 @@ use Prim.Native.Nat.{ℕ, _+_, _-_, _*_, _/_, _%_, _^_, _≤_, _<_}
 use mathlib.Core.Path.{_≡_, _∙_}
 use mathlib.Core.Bool.{Bool, true, false}
 use mathlib.Core.List.{List}
-use native.Mathlib.Nat.{div-one, mod-one}
+use native.Mathlib.Nat.{div-one, mod-one, div-div-eq-div-mul}
 use native.Mathlib.Omega.{arith}
 use lib.Dec.{eqb}
 use Rattle.header.specs.Check.{check}
@@ -27,14 +27,15 @@ check-over ext x h = check-at (total (layer4 ext)) x (few ext) h
 -- the fields x as the code takes them from a header of `size` bytes, with EXT ADD, RFA, their check k, and the check that stands behind them
 abbrev pub taken : (ext : Bool) (x size upper rfa k behind : ℕ) → Opened
 taken ext x size upper rfa k behind =
+    let front = x / 2 ^ (8 * size - 22) in
     record {
       header = record {
-        ri = x / 2 ^ (8 * size - 6 - 2) % 4;
-        ci = x / 2 ^ (8 * size - 6 - 4) % 4;
-        first = eqb (x / 2 ^ (8 * size - 6 - 5) % 2) 1;
-        last = eqb (x / 2 ^ (8 * size - 6 - 6) % 2) 1;
+        ri = front / 16384 % 4;
+        ci = front / 4096 % 4;
+        first = eqb (front / 2048 % 2) 1;
+        last = eqb (front / 1024 % 2) 1;
         ext = ext;
-        number = 512 * upper + x / 2 ^ (8 * size - 6 - 16) % 512;
+        number = 512 * upper + front % 512;
         command = eqb (x / 512 % 2) 1;
         length = x % 256;
         size = size;
@@ -47,8 +48,12 @@ taken ext x size upper rfa k behind =
 places : (ext : Bool) (h : ℕ)
     → taken ext (h / 64) (sizeOf ext) (only ext (h / 64 / 8192 % 32)) (only ext (h / 64 / 1024 % 8)) (check (total (layer4 ext)) (h / 64)) (h % 64) ≡ opened ext h
 unfolding opened
-places true h = rw div-one
-places false h = rw (div-one, mod-one)
+places true h =
+    let d = div-div-eq-div-mul (h / 64) (2 ^ 18) in
+    rw (d 16384, d 4096, d 2048, d 1024, div-one)
+places false h =
+    let d = div-div-eq-div-mul (h / 64) (2 ^ 10) in
+    rw (d 16384, d 4096, d 2048, d 1024, div-one, mod-one)
 
 module _ (ext : Bool) (h size upper rfa k : ℕ) (s : size ≡ sizeOf ext) (l : h < 2 ^ (8 * size)) (u : upper ≡ only ext (h / 64 / 8192 % 32))
     (r : rfa ≡ only ext (h / 64 / 1024 % 8)) (e : k ≡ check 64 (h / 64)) where

@@ -43,21 +43,21 @@ pub(crate) fn size_of(ext: bool) -> usize
     if ext { 5 } else { 4 }
 }
 
-// The fields of a header of `size` bytes. Those in front stand below its top, those behind EXT ADD and RFA above its end.
+// The fields of a header of `size` bytes: RI to ADD are its first sixteen bits, the others stand above its end.
 fn parted(h: u64, ext: bool, size: usize) -> Opened
     requires { ⌜ (size ≡ sizeOf ext) × (4 ≤ size) × (size ≤ 5) × (h < 2 ^ (8 * size)) ⌝ }
     ensures { λ r. ⌜ r ≡ opened ext h ⌝ }
 {
     let fields = h / 64;
-    let top = 8 * size - 6;
+    let front = fields >> (8 * size - 22);
     let upper = with_ext(ext, (fields >> 13) % 32);
     let header = Header {
-        ri: ((fields >> (top - 2)) % 4) as u8,
-        ci: ((fields >> (top - 4)) % 4) as u8,
-        first: (fields >> (top - 5)) % 2 == 1,
-        last: (fields >> (top - 6)) % 2 == 1,
+        ri: ((front >> 14) % 4) as u8,
+        ci: ((front >> 12) % 4) as u8,
+        first: (front >> 11) % 2 == 1,
+        last: (front >> 10) % 2 == 1,
         ext,
-        number: (512 * upper + (fields >> (top - 16)) % 512) as u16,
+        number: (512 * upper + front % 512) as u16,
         command: (fields >> 9) % 2 == 1,
         length: (fields % 256) as usize,
         size,

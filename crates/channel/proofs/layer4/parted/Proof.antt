@@ -4,59 +4,32 @@ use borrow.Author.Needs.{needs}
 use Rattle.channel.proofs.layer4.parted.Statement.{statement}
 use Rattle.channel.proofs.layer4.parted.Tie as tie
 
-mul-top : tie.Need-mul-top
-mul-top c = search needs
+mul-front : tie.Need-mul-front
+mul-front c = search needs
 
-sub-top : tie.Need-sub-top
-sub-top c = search needs
+sub-front : tie.Need-sub-front
+sub-front c = search needs
+
+shr-front : tie.Need-shr-front
+shr-front c = search needs
 
 with-ext-requires : tie.Need-with-ext-requires
 with-ext-requires c κs = search needs
 
-sub-t8 : tie.Need-sub-t8
-sub-t8 c = search needs
-
-shr-t9 : tie.Need-shr-t9
-shr-t9 c = search needs
-
 cast-t12 : tie.Need-cast-t12
 cast-t12 c = search needs
 
-sub-t13 : tie.Need-sub-t13
-sub-t13 c = search needs
+cast-t15 : tie.Need-cast-t15
+cast-t15 c = search needs
 
-shr-t15 : tie.Need-shr-t15
-shr-t15 c = search needs
+mul-t22 : tie.Need-mul-t22
+mul-t22 c = search needs
 
-cast-t17 : tie.Need-cast-t17
-cast-t17 c = search needs
+add-t24 : tie.Need-add-t24
+add-t24 c = search needs
 
-sub-t18 : tie.Need-sub-t18
-sub-t18 c = search needs
-
-shr-t20 : tie.Need-shr-t20
-shr-t20 c = search needs
-
-sub-t23 : tie.Need-sub-t23
-sub-t23 c = search needs
-
-shr-t25 : tie.Need-shr-t25
-shr-t25 c = search needs
-
-mul-t28 : tie.Need-mul-t28
-mul-t28 c = search needs
-
-sub-t29 : tie.Need-sub-t29
-sub-t29 c = search needs
-
-shr-t31 : tie.Need-shr-t31
-shr-t31 c = search needs
-
-add-t33 : tie.Need-add-t33
-add-t33 c = search needs
-
-cast-t34 : tie.Need-cast-t34
-cast-t34 c = search needs
+cast-t25 : tie.Need-cast-t25
+cast-t25 c = search needs
 
 with-ext-requires-2 : tie.Need-with-ext-requires-2
 with-ext-requires-2 c κs = search needs
@@ -77,24 +50,15 @@ pub parted-spec : {M : Type 1} → statement M
 parted-spec =
     tie.close
     (tie.spec
-    mul-top
-    sub-top
+    mul-front
+    sub-front
+    shr-front
     with-ext-requires
-    sub-t8
-    shr-t9
     cast-t12
-    sub-t13
-    shr-t15
-    cast-t17
-    sub-t18
-    shr-t20
-    sub-t23
-    shr-t25
-    mul-t28
-    sub-t29
-    shr-t31
-    add-t33
-    cast-t34
+    cast-t15
+    mul-t22
+    add-t24
+    cast-t25
     with-ext-requires-2
     cast-t12-2
     check-requires
