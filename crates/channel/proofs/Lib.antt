@@ -1,6 +1,7 @@
 pub mod Rows
 pub mod Laws
 pub mod Headers
+pub mod Messages
 pub mod Steps
 pub mod Writing
 pub mod HeaderBack

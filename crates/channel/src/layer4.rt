@@ -1,9 +1,11 @@
 // Layer 4: the header of a message, and the message's tests.
 ghost use mathlib.Core.Path.{_≡_};
 ghost use Prim.Native.Nat.{_*_, _≤_, _<_, _^_};
-ghost use lib.ListN.{length};
+ghost use lib.Dec.{eqb};
+ghost use lib.ListN.{length, drop};
+ghost use Rattle.channel.specs.Rules.{both};
 ghost use Rattle.channel.specs.Answers.{outcome};
-ghost use Rattle.channel.specs.Layer4.{only, sizeOf, opened, openedAt, rightForm, tested, messageOf, zeros};
+ghost use Rattle.channel.specs.Layer4.{only, sizeOf, opened, openedAt, rightForm, blocksFor, messageOf, zeros};
 use crate::DATA_BYTES;
 use crate::Header;
 use crate::MESSAGE_BYTES;
@@ -24,7 +26,25 @@ pub(crate) fn read(bytes: &[u8]) -> Step
     requires { ⌜ (20 ≤ length (now bytes)) × (length (now bytes) ≤ 260) ⌝ }
     ensures { λ r. ⌜ outcome r ≡ messageOf (now (bytes .entry)) ⌝ }
 {
-    test(header_at(bytes), bytes)
+    let opened = header_at(bytes);
+    if opened.caf {
+        return Step::Refused(Refusal::HeaderForm);
+    }
+    if !opened.checked {
+        return Step::Refused(Refusal::HeaderCheck);
+    }
+    let header = opened.header;
+    if !right_form(opened.rfa, header.ext, header.number) {
+        return Step::Refused(Refusal::HeaderForm);
+    }
+    let end = header.size + header.length;
+    if MESSAGE_BYTES < end {
+        return Step::Refused(Refusal::TooLong);
+    }
+    if !padded(bytes, end) {
+        return Step::Refused(Refusal::CountOrPadding);
+    }
+    Step::Message(header)
 }
 
 fn header_at(bytes: &[u8]) -> Opened
@@ -77,47 +97,25 @@ fn with_ext(ext: bool, field: u64) -> u64
     if ext { field } else { 0 }
 }
 
-fn test(opened: Opened, bytes: &[u8]) -> Step
-    requires { ⌜ (opened .header .size ≤ 5) × (opened .header .length ≤ 255) × (length (now bytes) ≤ 260) ⌝ }
-    ensures { λ r. ⌜ outcome r ≡ tested opened (now (bytes .entry)) ⌝ }
+// RFA is zero. A number below 512 is written without EXT, and a greater one needs it: without EXT there are nine bits.
+fn right_form(rfa: u8, ext: bool, number: u16) -> bool
+    ensures { λ r. ⌜ r ≡ both (eqb rfa 0) (rightForm ext number) ⌝ }
 {
-    if opened.caf {
-        return Step::Refused(Refusal::HeaderForm);
+    if rfa != 0 {
+        return false;
     }
-    if !opened.checked {
-        return Step::Refused(Refusal::HeaderCheck);
-    }
-    if opened.rfa != 0 {
-        return Step::Refused(Refusal::HeaderForm);
-    }
-    let header = opened.header;
-    if !right_form(header.ext, header.number) {
-        return Step::Refused(Refusal::HeaderForm);
-    }
-    let end = header.size + header.length;
-    if MESSAGE_BYTES < end {
-        return Step::Refused(Refusal::TooLong);
-    }
-    if (end + 19) / DATA_BYTES * DATA_BYTES != bytes.len() {
-        return Step::Refused(Refusal::CountOrPadding);
-    }
-    if !all_zero(&bytes[end..]) {
-        return Step::Refused(Refusal::CountOrPadding);
-    }
-    Step::Message(header)
-}
-
-// A number below 512 is written without EXT. A greater one needs it: without EXT there are nine bits.
-fn right_form(ext: bool, number: u16) -> bool
-    ensures { λ r. ⌜ r ≡ rightForm ext number ⌝ }
-{
     if ext { 512 <= number } else { true }
 }
 
-fn all_zero(bytes: &[u8]) -> bool
-    ensures { λ r. ⌜ r ≡ zeros (now (bytes .entry)) ⌝ }
+// Whether the bytes are the least number of blocks that holds a message up to `end`, and zero behind it.
+fn padded(bytes: &[u8], end: usize) -> bool
+    requires { ⌜ end ≤ 260 ⌝ }
+    ensures { λ r. ⌜ r ≡ both (eqb (blocksFor end * 20) (length (now (bytes .entry)))) (zeros (drop end (now (bytes .entry)))) ⌝ }
 {
-    let mut i: usize = 0;
+    if (end + 19) / DATA_BYTES * DATA_BYTES != bytes.len() {
+        return false;
+    }
+    let mut i = end;
     while i < bytes.len() {
         if bytes[i] != 0 {
             return false;
