@@ -1,18 +1,22 @@
 -- The step's definition, test by test, on the header as the code has it. Assumes nothing.
-use Prim.Native.Nat.{ℕ, _/_, _%_, _<_}
-use mathlib.Core.Path.{_≡_}
-use mathlib.Core.Bool.{true, false}
+use Prim.Native.Nat.{ℕ, _+_, _/_, _%_, _≤_, _<_}
+use mathlib.Core.Path.{_≡_, refl, sym, _∙_}
+use mathlib.Core.Bool.{Bool, true, false}
 use mathlib.Core.List.{List}
 use native.Mathlib.Nat.{div-one}
 use native.Mathlib.Omega.{arith}
-use borrow.Author.Tests.{eq-eqb, ne-eqb}
-use lib.Dec.{eqb}
+use borrow.Author.Tests.{eq-eqb, ne-eqb, le-ltb, lt-ltb}
+use lib.Dec.{eqb, ltb}
 use lib.ListN.{length, drop}
+use lib.Seq.{paste}
 use Rattle.header.specs.Check.{check}
+use Rattle.channel.specs.Rules.{unless}
 use Rattle.channel.specs.Answers.{refused, leaves}
 use Rattle.channel.specs.Layer3.{headerOf}
-use Rattle.channel.specs.State.{keepsRule, advanced, stepOf}
+use Rattle.channel.specs.State.{keepsRule, asWaiting, joined, followed, inPhase, inStep, advanced, stepOf}
 use Rattle.channel.specs.declared.Channel.{Channel}
+use Rattle.channel.specs.declared.Phase.{Phase}
+use Rattle.channel.specs.declared.Phase.the-variants.{Waiting, Ready, Gathering}
 use Rattle.channel.proofs.Laws.{check-at}
 
 module _ (c : Channel) (information : List ℕ) (rule : keepsRule c ≡ true) (long : length information ≡ 22) where
@@ -37,3 +41,25 @@ module _ (c : Channel) (information : List ℕ) (rule : keepsRule c ≡ true) (l
       goes-on e =
           let m : eqb (check 10 (h / 64)) (h % 64) ≡ true = rw ten at (eq-eqb _ _ e) in
           rw (rule, eq-eqb _ _ long, is, eq-eqb _ _ channel, m, div-one)
+
+-- a block with a right header: the tests by the SC, and the joining
+module _ (c : Channel) (lf : Bool) (sc : ℕ) (twenty : List ℕ) where
+  by-phase : (p : Phase) → inPhase p c lf sc twenty ≡ unless (inStep p (c .expected) sc) (leaves (refused 8) (asWaiting c lf sc))
+      (unless (ltb (c .gathered) 260) (leaves (refused 9) (asWaiting c lf sc)) (joined (paste (c .bytes) (c .gathered) twenty 20) (c .gathered + 20) lf ((sc + 1) % 16)))
+  unfolding followed
+  by-phase Waiting = refl
+  by-phase Ready = refl
+  by-phase Gathering = refl
+
+  pub out-of-step : inStep (c .phase) (c .expected) sc ≡ false → leaves (refused 8) (asWaiting c lf sc) ≡ advanced c lf sc twenty
+  unfolding advanced
+  out-of-step e = sym (by-phase (c .phase) ∙ rw e)
+
+  module _ (expected : inStep (c .phase) (c .expected) sc ≡ true) where
+    pub too-many : 260 ≤ c .gathered → leaves (refused 9) (asWaiting c lf sc) ≡ advanced c lf sc twenty
+    unfolding advanced
+    too-many h = sym (by-phase (c .phase) ∙ rw (expected, le-ltb _ _ h))
+
+    pub joins-on : c .gathered < 260 → joined (paste (c .bytes) (c .gathered) twenty 20) (c .gathered + 20) lf ((sc + 1) % 16) ≡ advanced c lf sc twenty
+    unfolding advanced
+    joins-on h = sym (by-phase (c .phase) ∙ rw (expected, lt-ltb _ _ h))

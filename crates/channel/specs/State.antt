@@ -1,6 +1,6 @@
 -- Document 01, "Channel state": a fresh state, the rule of a state, and each information block, rule by rule. Assumes nothing.
 use Prim.Native.Nat.{ℕ, _+_, _%_}
-use mathlib.Core.Bool.{Bool, cond}
+use mathlib.Core.Bool.{Bool, false, cond}
 use mathlib.Core.List.{List}
 use lib.Dec.{eqb, leb, ltb}
 use lib.ListN.{length, take, drop, replicate}
@@ -57,6 +57,12 @@ inPhase Gathering c lf sc twenty = followed c lf sc twenty
 
 unfoldable pub advanced : Channel → Bool → ℕ → List ℕ → Left
 advanced c lf sc twenty = inPhase (c .phase) c lf sc twenty
+
+-- an SC is expected, and it is this one
+abbrev pub inStep : Phase → ℕ → ℕ → Bool
+inStep Waiting expected sc = false
+inStep Ready expected sc = eqb sc expected
+inStep Gathering expected sc = eqb sc expected
 
 -- state (11), length (1), channel (5), header check (4): these leave the state as it stood
 unfoldable pub stepOf : Channel → List ℕ → Left

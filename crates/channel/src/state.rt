@@ -1,12 +1,12 @@
 // The channel's state: its rule, and what a block with a right header does to it.
 ghost use mathlib.Core.Bool.{true};
 ghost use mathlib.Core.Path.{_≡_};
-ghost use Prim.Native.Nat.{_+_, _<_, _≤_, _%_};
+ghost use Prim.Native.Nat.{_<_, _≤_};
 ghost use lib.ListN.{length};
 ghost use lib.Seq.{paste};
 ghost use Rattle.answers.specs.Numbers.{numberOf};
 ghost use Rattle.channel.specs.Answers.{paper, leaves, refused};
-ghost use Rattle.channel.specs.State.{keepsRule, asWaiting, joined, followed, advanced};
+ghost use Rattle.channel.specs.State.{keepsRule, asWaiting, inStep, joined, advanced};
 use crate::Channel;
 use crate::DATA_BYTES;
 use crate::MESSAGE_BYTES;
@@ -51,25 +51,13 @@ pub(crate) fn keeps_rule(channel: Channel) -> bool
     }
 }
 
-// A block with a right header, by its LF, its SC and its twenty bytes.
+// A block with a right header, by its LF, its SC and its twenty bytes. One out of step drops what was gathered, and so
+// does a fourteenth.
 pub(crate) fn advance(channel: Channel, lf: bool, sc: u8, twenty: &[u8]) -> Stepped
     requires { ⌜ (keepsRule channel ≡ true) × (sc < 16) × (length (now twenty) ≡ 20) ⌝ }
     ensures { λ r. ⌜ paper r ≡ advanced channel lf sc (now (twenty .entry)) ⌝ }
 {
-    let phase = channel.phase;
-    match phase {
-        Phase::Waiting => refused(Refusal::OutOfStep, as_waiting(channel, lf, sc)),
-        Phase::Ready => follow(channel, lf, sc, twenty),
-        Phase::Gathering => follow(channel, lf, sc, twenty),
-    }
-}
-
-// An SC is expected: any other drops what was gathered, and so does a fourteenth block.
-fn follow(channel: Channel, lf: bool, sc: u8, twenty: &[u8]) -> Stepped
-    requires { ⌜ (sc < 16) × (channel .gathered ≤ 260) × (channel .gathered % 20 ≡ 0) × (length (now twenty) ≡ 20) ⌝ }
-    ensures { λ r. ⌜ paper r ≡ followed channel lf sc (now (twenty .entry)) ⌝ }
-{
-    if sc != channel.expected {
+    if !in_step(channel, sc) {
         return refused(Refusal::OutOfStep, as_waiting(channel, lf, sc));
     }
     let at = channel.gathered;
@@ -78,6 +66,19 @@ fn follow(channel: Channel, lf: bool, sc: u8, twenty: &[u8]) -> Stepped
     }
     let bytes = channel.bytes;
     gather(join(bytes, at, twenty), at + DATA_BYTES, lf, (sc + 1) % 16)
+}
+
+// A waiting channel expects no SC.
+fn in_step(channel: Channel, sc: u8) -> bool
+    ensures { λ r. ⌜ r ≡ inStep (channel .phase) (channel .expected) sc ⌝ }
+{
+    let phase = channel.phase;
+    let expected = channel.expected;
+    match phase {
+        Phase::Waiting => false,
+        Phase::Ready => sc == expected,
+        Phase::Gathering => sc == expected,
+    }
 }
 
 // As waiting: LF makes the channel ready for the next block. No byte changes.
