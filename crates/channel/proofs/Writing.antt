@@ -10,8 +10,8 @@ use borrow.Rule.Slice.PartMut.{putMid}
 use lib.Dec.{eqb}
 use lib.ListN.{length, take, drop, replicate, length-append, length-drop, length-replicate}
 use lib.Seq.{paste, take-paste, drop-paste, length-paste, take-all, take-at, drop-at, take-length, take-append-add, drop-drop, length-take-le}
-use Rattle.header.specs.Check.{bit, check}
-use Rattle.header.specs.Fields.{total, header, bytesOf}
+use Rattle.header.specs.Check.{bit}
+use Rattle.header.specs.Fields.{total, withCheck, header, bytesOf}
 use Rattle.header.proofs.Bits.{bit-lt}
 use Rattle.header.proofs.Fields.{length-bytes}
 use Rattle.channel.specs.Layer3.{layer3, blockOf}
@@ -69,12 +69,11 @@ module _ (output twenty filled : List ℕ) (at h : ℕ) (n : length twenty ≡ 2
   block-in = rw (header-in, n) (paste-paste output (bytesOf 2 h) twenty at 2 20 refl n (omega arith))
 
 -- the header as the code sums it up
-pub block-header : (di lf : Bool) (sc d l k : ℕ) → d ≡ bit di → l ≡ bit lf → sc < 16 → k ≡ check 64 (((20 + d) * 2 + l) * 16 + sc)
-    → (((20 + d) * 2 + l) * 16 + sc) * 64 + k ≡ header layer3 (10 ∷ bit di ∷ bit lf ∷ sc ∷ [])
-block-header di lf sc d l k ed el s ek =
+pub block-header : (di lf : Bool) (sc d l : ℕ) → d ≡ bit di → l ≡ bit lf → sc < 16 → withCheck 64 (((20 + d) * 2 + l) * 16 + sc) ≡ header layer3 (10 ∷ bit di ∷ bit lf ∷ sc ∷ [])
+block-header di lf sc d l ed el s =
     let x = ((20 + d) * 2 + l) * 16 + sc in
     let small : x < 2 ^ 10 = omega (arith, bit-lt di, bit-lt lf) in
-    rw (ek, check-at 10 x (omega arith) small, ed, el)
+    rw (check-at 10 x (omega arith) small, ed, el)
 
 -- ---- header and data over zeros
 

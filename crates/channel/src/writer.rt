@@ -1,13 +1,13 @@
 // The message writer.
-ghost use mathlib.Core.List.{_++_};
+ghost use mathlib.Core.List.{[], _∷_, _++_};
 ghost use mathlib.Core.Path.{_≡_};
 ghost use Prim.Native.Nat.{_*_, _+_, _<_, _≤_, _^_};
 ghost use lib.ListN.{length, drop};
 ghost use lib.Dec.{leb};
 ghost use lib.Seq.{paste};
 ghost use Rattle.header.specs.Check.{bit};
-ghost use Rattle.header.specs.Fields.{total, packed};
-ghost use Rattle.channel.specs.Layer3.{blockOf};
+ghost use Rattle.header.specs.Fields.{total, packed, withCheck, header};
+ghost use Rattle.channel.specs.Layer3.{layer3, blockOf};
 ghost use Rattle.channel.specs.Layer4.{sizeOf, layer4};
 ghost use Rattle.channel.specs.Writer.{headerFor, valuesOf, headerBytes, cut, within, writeOf, Writes, flat};
 use crate::DATA_BYTES;
@@ -124,15 +124,22 @@ fn pack(header: Header) -> u64
     }
 }
 
+// Fields, and their check behind them.
+fn with_check(fields: u64) -> u64
+    requires { ⌜ fields < 2 ^ 34 ⌝ }
+    ensures { λ r. ⌜ r ≡ withCheck 64 fields ⌝ }
+{
+    fields * 64 + header::check(fields)
+}
+
 // Lays header and data over the front of zeros.
 fn lay(header: Header, data: &[u8], zeros: [u8; MESSAGE_BYTES]) -> [u8; MESSAGE_BYTES]
     requires { ⌜ (header .ri < 4) × (header .ci < 4) × (header .number < 16384) × (header .length ≡ length (now «data»)) × (length (now «data») ≤ 255) × (header .ext ≡ leb 512 (header .number)) × (header .size ≡ sizeOf (header .ext)) × (header .size ≤ 5) ⌝ }
     ensures { λ r. ⌜ r ≡ headerBytes header ++ now («data» .entry) ++ drop (sizeOf (header .ext) + header .length) zeros ⌝ }
 {
-    let fields = pack(header);
     let size = header.size;
     let mut bytes = zeros;
-    row::put_number(fields * 64 + header::check(fields), &mut bytes[..size]);
+    row::put_number(with_check(pack(header)), &mut bytes[..size]);
     row::put(data, &mut bytes, size);
     bytes
 }
@@ -161,11 +168,14 @@ fn put_block(twenty: &[u8], di: bool, lf: bool, sc: u8, output: &mut [u8], at: u
     requires { ⌜ (length (now twenty) ≡ 20) × (at + 22 ≤ length (now output)) × (sc < 16) ⌝ }
     ensures { λ r. ⌜ now (output .exit) ≡ paste (now (output .entry)) at (blockOf di lf sc (now (twenty .entry))) 22 ⌝ }
 {
-    let fields = ((20 + one(di)) * 2 + one(lf)) * 16 + (sc as u64);
     let data_at = at + 2;
-    row::put_number(
-        fields * 64 + header::check(fields),
-        &mut output[at..data_at],
-    );
+    row::put_number(block_header(di, lf, sc), &mut output[at..data_at]);
     row::put(twenty, output, data_at);
+}
+
+fn block_header(di: bool, lf: bool, sc: u8) -> u64
+    requires { ⌜ sc < 16 ⌝ }
+    ensures { λ r. ⌜ r ≡ header layer3 (10 ∷ bit di ∷ bit lf ∷ sc ∷ []) ⌝ }
+{
+    with_check(((20 + one(di)) * 2 + one(lf)) * 16 + (sc as u64))
 }

@@ -9,7 +9,6 @@ use Rattle.header.specs.Fields.{total, header, withCheck, bytesOf}
 use Rattle.header.proofs.Fields.{length-bytes}
 use Rattle.channel.specs.Layer4.{layer4}
 use Rattle.channel.specs.Writer.{valuesOf, headerBytes}
-use Rattle.channel.proofs.Laws.{check-small}
 use Rattle.channel.proofs.Headers.{check-over}
 use Rattle.channel.proofs.Writing.{pack-small, laid, laid-length}
 use borrow.Author.Needs.{needs}
@@ -26,26 +25,17 @@ filled c =
     let a = s .args in
     let l : length (a .zeros) ≡ 260 = search needs in
     let n : length (take (a .header .size) (a .zeros)) ≡ a .header .size = length-take-le (a .header .size) (a .zeros) (omega arith) in
-    let x : k .before .pack .result * 64 + k .check .result ≡ header (layer4 (a .header .ext)) (valuesOf (a .header)) =
-    ap (λ (n : ℕ). k .before .pack .result * 64 + n) (k .check .ensures ∙ check-over (a .header .ext) (k .before .pack .result) (k .before .pack .ensures .1))
+    let x : k .with-check .result ≡ header (layer4 (a .header .ext)) (valuesOf (a .header)) =
+    k .with-check .ensures
+    ∙ ap (λ (n : ℕ). k .before .pack .result * 64 + n) (check-over (a .header .ext) (k .before .pack .result) (k .before .pack .ensures .1))
     ∙ ap (withCheck (total (layer4 (a .header .ext)))) (k .before .pack .ensures .0) in
     (c .put-number .ensures ∙ ap₂ bytesOf (n ∙ s .pre .6) x, length-bytes _ _ ∙ sym (s .pre .6))
 
 pack-requires : tie.Need-pack-requires
 pack-requires c κs = search needs
 
-mul-put-number : tie.Need-mul-put-number
-mul-put-number c =
-    let a = c .before .before .args in
-    omega (arith, pack-small (a .header .ext) (c .pack .result) (c .pack .ensures .1))
-
-check-requires : tie.Need-check-requires
-check-requires c κs = search needs
-
-add-put-number : tie.Need-add-put-number
-add-put-number c =
-    let a = c .before .before .before .args in
-    omega (arith, pack-small (a .header .ext) (c .before .pack .result) (c .before .pack .ensures .1), check-small _ (c .check .result) (c .check .ensures))
+with-check-requires : tie.Need-with-check-requires
+with-check-requires c κs = pack-small (c .before .before .args .header .ext) (c .pack .result) (c .pack .ensures .1)
 
 array-borrow-prefix-bytes : tie.Need-array-borrow-prefix-bytes
 array-borrow-prefix-bytes c = search needs
@@ -93,9 +83,7 @@ lay-spec =
     tie.close
     (tie.spec
     pack-requires
-    mul-put-number
-    check-requires
-    add-put-number
+    with-check-requires
     array-borrow-prefix-bytes
     slice-aggregate-put-number
     put-number-requires
