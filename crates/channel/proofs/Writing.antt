@@ -1,5 +1,5 @@
 -- What the writer's functions lay out, as the definitions have it. Assumes nothing.
-use Prim.Native.Nat.{ℕ, zero, suc, _+_, _-_, _*_, _%_, _^_, _≤_, _<_}
+use Prim.Native.Nat.{ℕ, zero, suc, _+_, _-_, _*_, _/_, _%_, _^_, _≤_, _<_}
 use mathlib.Core.Path.{_≡_, refl, sym, ap, ap₂, _∙_}
 use mathlib.Core.Bool.{Bool, true, false}
 use mathlib.Core.List.{List, [], _∷_, _++_, append-assoc}
@@ -11,7 +11,7 @@ use lib.Dec.{eqb}
 use lib.ListN.{length, take, drop, replicate, length-append, length-drop, length-replicate}
 use lib.Seq.{paste, take-paste, drop-paste, length-paste, take-all, take-at, drop-at, take-length, take-append-add, drop-drop, length-take-le}
 use Rattle.header.specs.Check.{bit}
-use Rattle.header.specs.Fields.{total, withCheck, header, bytesOf}
+use Rattle.header.specs.Fields.{total, packed, withCheck, header, bytesOf}
 use Rattle.header.proofs.Bits.{bit-lt}
 use Rattle.header.proofs.Fields.{length-bytes}
 use Rattle.channel.specs.Layer3.{layer3, blockOf}
@@ -76,6 +76,19 @@ block-header di lf sc d l ed el s =
     rw (check-at 10 x (omega arith) small, ed, el)
 
 -- ---- header and data over zeros
+
+-- the fields as the code sums them up, with and without EXT
+module _ (ri ci n d f l m : ℕ) (first last command : Bool) (hr : ri < 4) (hc : ci < 4) (hd : d < 256) (ef : f ≡ bit first) (el : l ≡ bit last) (em : m ≡ bit command) where
+  pub with-ext : n < 16384 → let x = ((((((ri * 4 + ci) * 2 + f) * 2 + l) * 1024 + 512) + n % 512) * 32 + n / 512) * 8192 + (m * 512 + d) in
+      (x ≡ packed (layer4 true) (ri ∷ ci ∷ bit first ∷ bit last ∷ 1 ∷ n % 512 ∷ n / 512 ∷ 0 ∷ bit command ∷ 0 ∷ d ∷ [])) × (x < 2 ^ 34)
+  with-ext h = rw (ef, el, em) (omega (arith, bit-lt first, bit-lt last, bit-lt command))
+
+  pub without-ext : n < 512 → let x = ((((ri * 4 + ci) * 2 + f) * 2 + l) * 1024 + n) * 1024 + (m * 512 + d) in
+      (x ≡ packed (layer4 false) (ri ∷ ci ∷ bit first ∷ bit last ∷ 0 ∷ n % 512 ∷ n / 512 ∷ 0 ∷ bit command ∷ 0 ∷ d ∷ [])) × (x < 2 ^ 26)
+  without-ext h =
+      let low : n % 512 ≡ n = omega arith in
+      let none : n / 512 ≡ 0 = omega arith in
+      rw (ef, el, em, low, none) (omega (arith, bit-lt first, bit-lt last, bit-lt command))
 
 pub pack-small : (ext : Bool) (x : ℕ) → x < 2 ^ total (layer4 ext) → x < 2 ^ 34
 pack-small true x h = h

@@ -1,8 +1,7 @@
 -- `channel::writer::pack`: each form is a sum of its fields. Assumes nothing.
-use mathlib.Core.Path.{_≡_, sym, _∙_}
-use Prim.Native.Nat.{_<_, _%_, _/_}
+use mathlib.Core.Path.{sym, _∙_}
 use borrow.Author.Tests.{leb-false}
-use native.Mathlib.Omega.{arith}
+use Rattle.channel.proofs.Writing.{with-ext, without-ext}
 use borrow.Author.Needs.{needs}
 use Rattle.channel.proofs.writer.pack.Statement.{statement}
 use Rattle.channel.proofs.writer.pack.Tie as tie
@@ -83,16 +82,20 @@ add-result-6 : tie.Need-add-result-6
 add-result-6 c = search needs
 
 returns : tie.Need-returns
-returns c = rw (c .if1 .taken) (omega arith)
+returns c =
+    let k = c .before in
+    let s = k .before .before .before .before .before .before in
+    let h = s .args .header in
+    rw (c .if1 .taken) (with-ext (h .ri) (h .ci) (h .number) (h .length) (k .before .before .one .result) (k .before .one2 .result) (k .one3 .result) (h .first) (h .last) (h .command)
+    (s .pre .0) (s .pre .1) (s .pre .3) (k .before .before .one .ensures .0) (k .before .one2 .ensures .0) (k .one3 .ensures .0) (s .pre .2))
 
 returns-2 : tie.Need-returns-2
 returns-2 c =
-    let a = c .before .before .before .before .before .before .before in
-    let n = a .args .header .number in
-    let small : n < 512 = leb-false 512 n (sym (a .pre .4) ∙ c .if1 .left) in
-    let low : n % 512 ≡ n = omega arith in
-    let none : n / 512 ≡ 0 = omega arith in
-    rw (c .if1 .left, low, none) (omega arith)
+    let k = c .before in
+    let s = k .before .before .before .before .before .before in
+    let h = s .args .header in
+    rw (c .if1 .left) (without-ext (h .ri) (h .ci) (h .number) (h .length) (k .before .before .one .result) (k .before .one2 .result) (k .one3 .result) (h .first) (h .last) (h .command)
+    (s .pre .0) (s .pre .1) (s .pre .3) (k .before .before .one .ensures .0) (k .before .one2 .ensures .0) (k .one3 .ensures .0) (leb-false 512 (h .number) (sym (s .pre .4) ∙ c .if1 .left)))
 
 pub pack-spec : {M : Type 1} → statement M
 pack-spec =
