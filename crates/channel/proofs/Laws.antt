@@ -7,7 +7,7 @@ use borrow.Author.Tests.{eqb-true, leb-true, le-leb}
 use lib.Dec.{eqb, leb}
 use Rattle.header.specs.Check.{check}
 use Rattle.header.proofs.Bits.{check-wider, check-fits}
-use Rattle.channel.specs.Rules.{both}
+use Rattle.channel.specs.Rules.{unless, both}
 use Rattle.channel.specs.Layer4.{sizeOf}
 use Rattle.channel.specs.Writer.{within}
 use Rattle.channel.specs.declared.writer.Fields.{Fields}
@@ -19,6 +19,11 @@ use Rattle.channel.specs.declared.Phase.the-variants.{Waiting, Ready, Ga
 pub both-true : (a b : Bool) → both a b ≡ true → (a ≡ true) × (b ≡ true)
 both-true true b e = (refl, e)
 both-true false b e = (e, let z : false ≡ true = e in cc)
+
+-- what holds on both sides of a test holds of it
+pub unless-elim : {A : Type 0} (P : A → Type 0) (b : Bool) (x y : A) → P x → (b ≡ true → P y) → P (unless b x y)
+unless-elim P true x y px py = py refl
+unless-elim P false x y px py = px
 
 -- a state that keeps its rule holds at most 260 bytes, in twenties
 phase-bytes : (p : Phase) (n sc : ℕ) → phaseHolds p n sc ≡ true → (n ≤ 260) × (n % 20 ≡ 0)

@@ -10,21 +10,16 @@ use lib.ListN.{length, drop}
 use lib.Seq.{paste}
 use Rattle.header.specs.Fields.{field, holds}
 use Rattle.channel.specs.Answers.{Left}
-use Rattle.channel.specs.Rules.{unless}
 use Rattle.channel.specs.Layer3.{layer3, headerOf, lfOf, scOf}
 use Rattle.channel.specs.State.{fresh, keepsRule, asWaiting, joined, followed, inPhase, advanced, stepOf}
 use Rattle.channel.specs.declared.Channel.{Channel}
 use Rattle.channel.specs.declared.Phase.{Phase}
 use Rattle.channel.specs.declared.Phase.the-variants.{Waiting, Ready, Gathering}
-use Rattle.channel.proofs.Laws.{rule-bytes}
+use Rattle.channel.proofs.Laws.{unless-elim, rule-bytes}
 use Rattle.channel.proofs.ReadBack.{next-rule, ready-rule}
 
 abbrev Kept : Left → Type 0
 Kept l = keepsRule (l .channel) ≡ true
-
-unless-kept : (b : Bool) (x y : Left) → Kept x → (b ≡ true → Kept y) → Kept (unless b x y)
-unless-kept true x y kx ky = ky refl
-unless-kept false x y kx ky = kx
 
 waiting-kept : (c : Channel) (lf : Bool) (sc : ℕ) → keepsRule (asWaiting c lf sc) ≡ true
 unfolding asWaiting keepsRule
@@ -40,8 +35,8 @@ followed-kept : (c : Channel) (lf : Bool) (sc : ℕ) (twenty : List ℕ) → kee
 unfolding followed
 followed-kept c lf sc twenty rule =
     let r = rule-bytes c rule in
-    unless-kept (eqb sc (c .expected)) _ _ (waiting-kept c lf sc)
-    (λ e. unless-kept (ltb (c .gathered) 260) _ _ (waiting-kept c lf sc)
+    unless-elim Kept (eqb sc (c .expected)) _ _ (waiting-kept c lf sc)
+    (λ e. unless-elim Kept (ltb (c .gathered) 260) _ _ (waiting-kept c lf sc)
     (λ l. let room = ltb-true (c .gathered) 260 l in
     joined-kept (paste (c .bytes) (c .gathered) twenty 20) (c .gathered) lf sc (omega arith) (r .1)))
 
@@ -54,10 +49,10 @@ pub rule-kept : (c : Channel) (information : List ℕ) → keepsRule c ≡ true 
 unfolding stepOf advanced
 rule-kept c information rule =
     let h = headerOf information in
-    unless-kept (keepsRule c) _ _ rule
-    (λ a. unless-kept (eqb (length information) 22) _ _ rule
-    (λ b. unless-kept (eqb (field layer3 0 h) 10) _ _ rule
-    (λ d. unless-kept (holds 10 h) _ _ rule
+    unless-elim Kept (keepsRule c) _ _ rule
+    (λ a. unless-elim Kept (eqb (length information) 22) _ _ rule
+    (λ b. unless-elim Kept (eqb (field layer3 0 h) 10) _ _ rule
+    (λ d. unless-elim Kept (holds 10 h) _ _ rule
     (λ e. phase-kept (c .phase) c (lfOf h) (scOf h) (drop 2 information) rule))))
 
 pub fresh-rule : keepsRule fresh ≡ true

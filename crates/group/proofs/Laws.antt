@@ -10,7 +10,7 @@ use lib.Dec.{eqb, leb}
 use lib.ListN.{length, take, drop}
 use lib.Seq.{paste, drop-drop}
 use Rattle.gf2.proofs.Lists.{tail-lent, tail-back}
-use Rattle.channel.specs.Rules.{unless, both}
+use Rattle.channel.specs.Rules.{both}
 use Rattle.channel.specs.declared.writer.Fields.{Fields}
 use Rattle.channel.proofs.Laws.{both-true}
 use Rattle.group.specs.State.{phaseHolds, keepsRule, within}
@@ -19,10 +19,6 @@ use Rattle.group.specs.declared.Phase.{Phase}
 use Rattle.group.specs.declared.Phase.the-variants.{Idle, Gathering}
 
 -- what holds on both sides of a test holds of it
-pub unless-elim : {A : Type 0} (P : A → Type 0) (b : Bool) (x y : A) → P x → (b ≡ true → P y) → P (unless b x y)
-unless-elim P true x y px py = py refl
-unless-elim P false x y px py = px
-
 pub cond-elim : {A : Type 0} (P : A → Type 0) (b : Bool) (x y : A) → (b ≡ true → P x) → (b ≡ false → P y) → P (cond b x y)
 cond-elim P true x y px py = px refl
 cond-elim P false x y px py = py refl

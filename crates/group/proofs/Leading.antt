@@ -16,7 +16,8 @@ use Rattle.group.specs.Reading.{answersTo, groupAfter, bufferAfter, join
 use Rattle.group.specs.declared.Group.{Group}
 use Rattle.group.specs.declared.Phase.{Phase}
 use Rattle.group.specs.declared.Phase.the-variants.{Idle, Gathering}
-use Rattle.group.proofs.Laws.{unless-elim, cond-elim, rule-room}
+use Rattle.channel.proofs.Laws.{unless-elim}
+use Rattle.group.proofs.Laws.{cond-elim, rule-room}
 
 abbrev LeadsIn : List ℕ → Left → Type 0
 LeadsIn d l = Leads (l .answer) (l .group) (l .buffer) d

@@ -8,13 +8,13 @@ use borrow.Author.Tests.{le-leb, leb-true, ltb-true}
 use lib.Dec.{eqb, leb, ltb}
 use lib.ListN.{length}
 use Rattle.channel.specs.declared.writer.Fields.{Fields}
-use Rattle.channel.proofs.Laws.{both-true}
+use Rattle.channel.proofs.Laws.{unless-elim, both-true}
 use Rattle.group.specs.Answers.{Left, Made}
 use Rattle.group.specs.State.{groupOf, idle, newOf, phaseHolds, keepsRule, within, joinedOn, followed, joinOf}
 use Rattle.group.specs.declared.Group.{Group}
 use Rattle.group.specs.declared.Phase.{Phase}
 use Rattle.group.specs.declared.Phase.the-variants.{Idle, Gathering}
-use Rattle.group.proofs.Laws.{unless-elim, cond-elim, rule-room, within-bounds}
+use Rattle.group.proofs.Laws.{cond-elim, rule-room, within-bounds}
 
 pub rule-number : (g : Group) → keepsRule g ≡ true → g .number ≤ 16383
 unfolding keepsRule

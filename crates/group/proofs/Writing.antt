@@ -13,26 +13,17 @@ use lib.Seq.{take-all, take-at, drop-at, drop-drop, length-take-le}
 use Rattle.answers.specs.Numbers.{accepted}
 use Rattle.gf2.proofs.Lists.{tail-lent, tail-back}
 use Rattle.channel.specs.Rules.{both}
-use Rattle.channel.specs.Layer3.{blockOf}
 use Rattle.channel.specs.Layer4.{sizeOf, blocksFor}
-use Rattle.channel.specs.Writer.{headerFor, messageBytes, messageBlocks, cut, flat, Written, written, Writes}
+use Rattle.channel.specs.Writer.{headerFor, messageBytes, messageBlocks, flat, Written, written, Writes}
 use Rattle.channel.specs.Writer as channel
 use Rattle.channel.specs.declared.writer.Fields.{Fields}
 use Rattle.channel.specs.declared.writer.Wrote.{Wrote}
 use Rattle.channel.proofs.Laws.{both-true, size-room}
-use Rattle.channel.proofs.Writing.{block-length, length-cut, message-length, flat-append}
+use Rattle.channel.proofs.Writing.{length-cut, length-flat, message-length, flat-append}
 use Rattle.group.specs.Writer.{within, groupFields, messagesOf, blocksOf, messagesFor}
 use Rattle.group.specs.declared.writer.Series.{Series}
 
 -- ---- one message
-
-flat-cut : (k : ℕ) (di : Bool) (sc : ℕ) (bytes : List ℕ) → length bytes ≡ 20 * k → length (flat (cut k di sc bytes)) ≡ 22 * k
-flat-cut zero di sc bytes h = refl
-flat-cut (suc k) di sc bytes h =
-    let b = blockOf di (eqb k 0) sc (take 20 bytes) in
-    let l : length b ≡ 22 = block-length di (eqb k 0) sc (take 20 bytes) ∙ ap (λ (n : ℕ). 2 + n) (length-take-le 20 bytes (omega arith)) in
-    let r = flat-cut k di ((sc + 1) % 16) (drop 20 bytes) (rw length-drop (omega arith)) in
-    rw (length-append b, l, r) (omega arith)
 
 module _ (m : Fields) (di : Bool) (sc : ℕ) (s : List ℕ) where
   pub message-count : length (messageBlocks m di sc s) ≡ blocksFor (sizeOf (leb 512 (m .number)) + length s)
@@ -44,7 +35,7 @@ module _ (m : Fields) (di : Bool) (sc : ℕ) (s : List ℕ) where
     unfolding messageBlocks
     message-flat =
         let h = headerFor m (length s) in
-        flat-cut (channel.blocksOf h) di sc (messageBytes h s) (message-length h s refl few) ∙ ap (λ (n : ℕ). 22 * n) (sym message-count)
+        length-flat (channel.blocksOf h) di sc (messageBytes h s) (message-length h s refl few) ∙ ap (λ (n : ℕ). 22 * n) (sym message-count)
 
     pub message-small : length (messageBlocks m di sc s) ≤ 13
     message-small = omega (arith, message-count, size-room (leb 512 (m .number)))
