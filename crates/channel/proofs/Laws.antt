@@ -20,6 +20,11 @@ pub both-true : (a b : Bool) → both a b ≡ true → (a ≡ true) × (b ≡ tr
 both-true true b e = (refl, e)
 both-true false b e = (e, let z : false ≡ true = e in cc)
 
+-- two tests with one answer are one test
+pub unless-both : {A : Type 0} (a b : Bool) (x y : A) → unless a x (unless b x y) ≡ unless (both a b) x y
+unless-both true b x y = refl
+unless-both false b x y = refl
+
 -- what holds on both sides of a test holds of it
 pub unless-elim : {A : Type 0} (P : A → Type 0) (b : Bool) (x y : A) → P x → (b ≡ true → P y) → P (unless b x y)
 unless-elim P true x y px py = py refl

@@ -1,6 +1,6 @@
 -- What the gathered bytes are, test by test, on the header as it stands in them. Assumes nothing.
 use Prim.Native.Nat.{ℕ, _+_, _*_, _≤_, _<_}
-use mathlib.Core.Path.{_≡_, refl, sym, ap, _∙_}
+use mathlib.Core.Path.{_≡_, sym, ap, _∙_}
 use mathlib.Core.Bool.{Bool, true, false, not}
 use mathlib.Core.List.{List}
 use borrow.Author.Tests.{le-leb, lt-leb}
@@ -10,12 +10,8 @@ use Rattle.channel.specs.Rules.{unless, both}
 use Rattle.channel.specs.Answers.{Outcome, message, refused}
 use Rattle.channel.specs.Layer4.{rightForm, blocksFor, zeros, openedAt, tested, messageOf}
 use Rattle.channel.specs.declared.layer4.Opened.{Opened}
+use Rattle.channel.proofs.Laws.{unless-both}
 use Rattle.channel.proofs.Headers.{openedAt-room}
-
--- two tests with one answer are one test
-unless-both : {A : Type 0} (a b : Bool) (x y : A) → unless a x (unless b x y) ≡ unless (both a b) x y
-unless-both true b x y = refl
-unless-both false b x y = refl
 
 abbrev pub formed : Opened → Bool
 formed o = both (eqb (o .rfa) 0) (rightForm (o .header .ext) (o .header .number))

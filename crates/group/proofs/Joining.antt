@@ -1,30 +1,98 @@
--- The step's definition, test by test, for a state that keeps its rule and a message within its widths. Assumes nothing.
-use Prim.Native.Nat.{ℕ, _≤_}
-use mathlib.Core.Path.{_≡_}
-use mathlib.Core.Bool.{true, false}
+-- The step's definition, test by test, as the code groups them. Assumes nothing.
+use Prim.Native.Nat.{ℕ, _*_, _≤_, _<_}
+use mathlib.Core.Path.{_≡_, refl, sym, ap, _∙_}
+use mathlib.Core.Bool.{Bool, true, false, not, cond}
 use mathlib.Core.List.{List}
-use borrow.Author.Tests.{eq-eqb, ne-eqb, le-leb}
+use native.Mathlib.Omega.{arith}
+use borrow.Author.Tests.{eqb-true, le-leb, lt-ltb, le-ltb}
+use lib.Dec.{eqb, leb, ltb}
 use lib.ListN.{length}
+use Rattle.channel.specs.Rules.{unless, both}
 use Rattle.channel.specs.declared.writer.Fields.{Fields}
-use Rattle.group.specs.Answers.{refused, leaves}
-use Rattle.group.specs.State.{idle, keepsRule, within, joinedOn, followed, joinOf}
+use Rattle.channel.proofs.Laws.{both-true, unless-both}
+use Rattle.group.specs.Answers.{refused, Left, leaves}
+use Rattle.group.specs.State.{idle, phaseHolds, keepsRule, within, inStep, joinedOn, followed, joinOf}
 use Rattle.group.specs.declared.Group.{Group}
+use Rattle.group.specs.declared.Phase.{Phase}
+use Rattle.group.specs.declared.Phase.the-variants.{Idle, Gathering}
+use Rattle.group.proofs.Laws.{rule-room}
 
-module _ (g : Group) (m : Fields) (s buffer : List ℕ) (room : 3825 ≤ length buffer) (rule : keepsRule g ≡ true) (fits : within m (length s) ≡ true) where
-  pub other-number : (m .number ≡ g .number → ⊥) → leaves (refused 13) g buffer ≡ joinOf g m s buffer
+-- an idle state that keeps its rule is the idle state of its number
+held-none : (g : Group) → phaseHolds Idle (g .held) (g .messages) (g .ci) ≡ true → g .phase ≡ Idle → g ≡ idle (g .number)
+held-none g e p =
+    let t = both-true (eqb (g .held) 0) (both (eqb (g .messages) 0) (eqb (g .ci) 0)) e in
+    let u = both-true (eqb (g .messages) 0) (eqb (g .ci) 0) (t .1) in
+    let h = eqb-true (g .held) 0 (t .0) in
+    let m = eqb-true (g .messages) 0 (u .0) in
+    let c = eqb-true (g .ci) 0 (u .1) in
+    λ i. record { number = g .number; phase = p i; held = h i; messages = m i; ci = c i }
+
+pub is-idle : (g : Group) → keepsRule g ≡ true → g .phase ≡ Idle → g ≡ idle (g .number)
+unfolding keepsRule
+is-idle g e p =
+    let t = both-true (leb (g .number) 16383) (phaseHolds (g .phase) (g .held) (g .messages) (g .ci)) e in
+    held-none g (sym (ap (λ (q : Phase). phaseHolds q (g .held) (g .messages) (g .ci)) p) ∙ t .1) p
+
+module _ (g : Group) (m : Fields) (s buffer : List ℕ) where
+  abbrev base : Bool → Group
+  base first = cond first (idle (g .number)) g
+
+  -- by First, and by the phase where it is none
+  abbrev ahead : Bool → Phase → Left
+  ahead first p = cond first (joinedOn (idle (g .number)) m s buffer) (followed p g m s buffer)
+
+  abbrev onward : Bool → Group → Left
+  onward step b =
+      unless step (leaves (refused 8) (idle (g .number)) buffer) (unless (ltb (b .messages) 15) (leaves (refused 9) (idle (g .number)) buffer) (joinedOn b m s buffer))
+
+  by-step : keepsRule g ≡ true → (first : Bool) (p : Phase) → g .phase ≡ p → ahead first p ≡ onward (inStep first (base first .phase) (base first .ci) (m .ci)) (base first)
+  by-step rule true p e = refl
+  by-step rule false Idle e =
+      ap (λ (h : Group). leaves (refused 8) h buffer) (is-idle g rule e) ∙ sym (ap (λ (q : Phase). onward (inStep false q (g .ci) (m .ci)) g) e)
+  by-step rule false Gathering e = sym (ap (λ (q : Phase). onward (inStep false q (g .ci) (m .ci)) g) e)
+
+  abbrev pub rules : Bool
+  rules = both (keepsRule g) (within m (length s))
+
+  abbrev pub ours : Bool
+  ours = both (eqb (m .number) (g .number)) (not (m .command))
+
+  in-order : joinOf g m s buffer ≡ unless (leb 3825 (length buffer)) (leaves (refused 10) g buffer) (unless rules (leaves (refused 11) g buffer) (unless ours (leaves (refused 13) g buffer) (ahead (m .first) (g .phase))))
   unfolding joinOf
-  other-number n = rw (le-leb _ _ room, rule, fits, ne-eqb _ _ n)
+  in-order =
+      ap (λ (t : Left). unless (leb 3825 (length buffer)) (leaves (refused 10) g buffer) t)
+      (unless-both (keepsRule g) (within m (length s)) (leaves (refused 11) g buffer) _
+      ∙ ap (λ (t : Left). unless rules (leaves (refused 11) g buffer) t) (unless-both (eqb (m .number) (g .number)) (not (m .command)) (leaves (refused 13) g buffer) _))
 
-  module _ (same : m .number ≡ g .number) where
-    pub a-command : m .command ≡ true → leaves (refused 13) g buffer ≡ joinOf g m s buffer
-    unfolding joinOf
-    a-command e = rw (le-leb _ _ room, rule, fits, eq-eqb _ _ same, e)
+  pub short : leb 3825 (length buffer) ≡ false → leaves (refused 10) g buffer ≡ joinOf g m s buffer
+  short e = sym (in-order ∙ rw e)
 
-    module _ (plain : m .command ≡ false) where
-      pub a-first : m .first ≡ true → joinedOn (idle (g .number)) m s buffer ≡ joinOf g m s buffer
-      unfolding joinOf
-      a-first e = rw (le-leb _ _ room, rule, fits, eq-eqb _ _ same, plain, e)
+  module _ (room : 3825 ≤ length buffer) where
+    pub outside : rules ≡ false → leaves (refused 11) g buffer ≡ joinOf g m s buffer
+    outside e = sym (in-order ∙ rw (le-leb _ _ room, e))
 
-      pub no-first : m .first ≡ false → followed (g .phase) g m s buffer ≡ joinOf g m s buffer
-      unfolding joinOf
-      no-first e = rw (le-leb _ _ room, rule, fits, eq-eqb _ _ same, plain, e)
+    module _ (within-rules : rules ≡ true) where
+      pub other : ours ≡ false → leaves (refused 13) g buffer ≡ joinOf g m s buffer
+      other e = sym (in-order ∙ rw (le-leb _ _ room, within-rules, e))
+
+      module _ (belongs : ours ≡ true) (b : Group) (is : b ≡ base (m .first)) where
+        tests : joinOf g m s buffer ≡ onward (inStep (m .first) (b .phase) (b .ci) (m .ci)) b
+        tests =
+            in-order
+            ∙ rw (le-leb _ _ room, within-rules, belongs) (by-step (both-true (keepsRule g) (within m (length s)) within-rules .0) (m .first) (g .phase) refl)
+            ∙ sym (ap (λ (h : Group). onward (inStep (m .first) (h .phase) (h .ci) (m .ci)) h) is)
+
+        pub out-of-step : inStep (m .first) (b .phase) (b .ci) (m .ci) ≡ false → leaves (refused 8) (idle (g .number)) buffer ≡ joinOf g m s buffer
+        out-of-step e = sym (tests ∙ rw e)
+
+        module _ (step : inStep (m .first) (b .phase) (b .ci) (m .ci) ≡ true) where
+          pub too-many : 15 ≤ b .messages → leaves (refused 9) (idle (g .number)) buffer ≡ joinOf g m s buffer
+          too-many h = sym (tests ∙ rw (step, le-ltb _ _ h))
+
+          pub joins : b .messages < 15 → joinedOn b m s buffer ≡ joinOf g m s buffer
+          joins h = sym (tests ∙ rw (step, lt-ltb _ _ h))
+
+-- what the data is joined on to has room for a message
+pub base-room : (g : Group) → keepsRule g ≡ true → (first : Bool) (b : Group) → b ≡ cond first (idle (g .number)) g → (b .held ≤ 255 * b .messages) × (b .ci ≤ 3)
+base-room g rule true b is = rw is (omega arith)
+base-room g rule false b is = let r = rule-room g rule in rw is (r .0, r .2)

@@ -6,13 +6,14 @@ use mathlib.Core.Bool.{Bool, true, false}
 use mathlib.Core.List.{List, [], _∷_, _++_, append-assoc}
 use native.Mathlib.Numerals.{add-one}
 use native.Mathlib.Omega.{arith}
-use borrow.Author.Tests.{eq-eqb, le-leb, lt-ltb}
+use borrow.Author.Tests.{eq-eqb, le-leb}
 use lib.Dec.{eqb, leb, eqb·suc-zero}
 use lib.ListN.{length, take, drop, replicate, length-append, length-take, length-drop, take-append-drop}
 use lib.Seq.{paste, length-paste, take-all}
 use Rattle.channel.specs.Answers as channel
 use Rattle.channel.specs.Layer4.{sizeOf, blocksFor}
 use Rattle.channel.specs.Reading.{answersOf, channelAfter, Listens}
+use Rattle.channel.specs.Rules.{both}
 use Rattle.channel.specs.State.{stepOf}
 use Rattle.channel.specs.Writer.{headerFor, messageBlocks}
 use Rattle.channel.specs.declared.Channel.{Channel}
@@ -27,7 +28,7 @@ use Rattle.group.specs.Reading.{answersTo, groupAfter, bufferAfter, mess
 use Rattle.group.specs.declared.Group.{Group}
 use Rattle.group.specs.declared.Phase.the-variants.{Gathering}
 use Rattle.group.specs.declared.writer.Series.{Series}
-use Rattle.group.proofs.Joining.{a-first, no-first}
+use Rattle.group.proofs.Joining.{joins}
 use Rattle.group.proofs.Writing.{message-count, series-bounds, taken-by-channel, full-messages}
 use Rattle.group.proofs.Rule.{gathering-rule}
 use Rattle.group.proofs.Leading.{front}
@@ -113,8 +114,9 @@ module _ (number ri : ℕ) (small-number : number ≤ 16383) (small-ri : ri ≤ 
   follows held messages ci last s buffer rule hc hd hm room =
       let g = groupOf number Gathering held messages ci in
       let m = groupFields number ri ((ci + 1) % 4) false last in
-      sym (no-first g m s buffer room rule (allowed ((ci + 1) % 4) (length s) false last (omega arith) hd) refl refl refl)
-      ∙ simp (eq-eqb ((ci + 1) % 4) ((ci + 1) % 4) refl, lt-ltb _ _ hm)
+      let rules : both (keepsRule g) (within m (length s)) ≡ true = rw (rule, allowed ((ci + 1) % 4) (length s) false last (omega arith) hd) in
+      let ours : both (eqb number number) true ≡ true = rw (eq-eqb number number refl) in
+      sym (joins g m s buffer room rules ours g refl (eq-eqb ((ci + 1) % 4) ((ci + 1) % 4) refl) hm)
 
   pub record Joins (k : ℕ) (first : Bool) (ci : ℕ) (s : List ℕ) (g base : Group) (buffer : List ℕ) : Type 0 where
     pub answers : answersTo g buffer (messagesOf (suc k) first number ri ci s) ≡ replicate k taken ++ (whole (base .held + length s) ∷ [])
@@ -184,8 +186,11 @@ group-back x s c g buffer fits l sc rule same room =
     let read : messagesRead c (groupBlocks x s) ≡ messages = ap (messagesRead c) (sym blocks) ∙ R .0 in
     let m = groupFields (x .number) (x .ri) (x .ci) true (eqb k 0) in
     let few : length (take 255 s) ≤ 255 = omega (arith, length-take 255 s) in
+    let rules : both (keepsRule g) (within m (length (take 255 s))) ≡ true =
+    rw (rule, allowed (x .number) (x .ri) (b .0) (b .1) (x .ci) (length (take 255 s)) true (eqb k 0) (b .3) few) in
+    let ours : both (eqb (x .number) (g .number)) true ≡ true = rw (eq-eqb _ _ (sym same)) in
     let first : joinOf g m (take 255 s) buffer ≡ joinedOn (idle (x .number)) m (take 255 s) buffer =
-    sym (a-first g m (take 255 s) buffer room rule (allowed (x .number) (x .ri) (b .0) (b .1) (x .ci) (length (take 255 s)) true (eqb k 0) (b .3) few) (sym same) refl refl)
+    sym (joins g m (take 255 s) buffer room rules ours (idle (g .number)) refl refl (omega arith))
     ∙ ap (λ (i : ℕ). joinedOn (idle i) m (take 255 s) buffer) same in
     let J = series-joins (x .number) (x .ri) (b .0) (b .1) k true (x .ci) s g (idle (x .number)) buffer (b .3) (omega arith) room refl (omega arith) (omega arith) first in
     let less : k + 1 - 1 ≡ k = omega arith in

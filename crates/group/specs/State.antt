@@ -1,6 +1,6 @@
 -- Document 01, "Group state": a fresh state, the rule of a state, and each message, rule by rule. Assumes nothing.
 use Prim.Native.Nat.{ℕ, _+_, _*_, _%_}
-use mathlib.Core.Bool.{Bool, not, cond}
+use mathlib.Core.Bool.{Bool, true, false, not, cond}
 use mathlib.Core.List.{List}
 use lib.Dec.{eqb, leb, ltb}
 use lib.ListN.{length}
@@ -51,6 +51,12 @@ followed Gathering g m s buffer =
     unless (eqb (m .ci) ((g .ci + 1) % 4)) (leaves (refused 8) (idle (g .number)) buffer)
     (unless (ltb (g .messages) 15) (leaves (refused 9) (idle (g .number)) buffer)
     (joinedOn g m s buffer))
+
+-- a First is in step with any state, another message with one that gathers and has the CI before its own
+abbrev pub inStep : Bool → Phase → ℕ → ℕ → Bool
+inStep true phase ci next = true
+inStep false Idle ci next = false
+inStep false Gathering ci next = eqb next ((ci + 1) % 4)
 
 -- buffer short (10); a state otherwise, number above 16,383, data over 255 bytes or a field over its width (11); another service number or COM set (13);
 -- these change nothing. First set: whatever was gathered is dropped and this data is the group so far

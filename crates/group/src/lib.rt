@@ -83,22 +83,19 @@ impl Group {
         if buffer.len() < Group::MOST_BYTES {
             return state::refused(Refusal::TooShort, self);
         }
-        if !state::keeps_rule(self) {
+        if !state::within_rules(self, message, data.len()) {
             return state::refused(Refusal::OutsideRule, self);
         }
-        if !state::within_widths(message, data.len()) {
-            return state::refused(Refusal::OutsideRule, self);
-        }
-        if message.number != self.number {
+        if !state::belongs(self, message) {
             return state::refused(Refusal::NotThisGroup, self);
         }
-        if message.command {
-            return state::refused(Refusal::NotThisGroup, self);
+        let base = state::base(self, message);
+        if !state::in_step(base, message) {
+            return state::refused(Refusal::OutOfStep, state::idle(self.number));
         }
-        if message.first {
-            let number = self.number;
-            return state::join_on(state::idle(number), message, data, buffer);
+        if Group::MOST_MESSAGES <= base.messages {
+            return state::refused(Refusal::TooMany, state::idle(self.number));
         }
-        state::follow(self, message, data, buffer)
+        state::join_on(base, message, data, buffer)
     }
 }

@@ -1,12 +1,14 @@
 // The group's state: its rule, and what a message of its own service number does to it.
-ghost use mathlib.Core.Bool.{true};
+ghost use mathlib.Core.Bool.{not, cond};
 ghost use mathlib.Core.List.{List};
 ghost use mathlib.Core.Path.{_≡_};
 ghost use Prim.Native.Nat.{ℕ, _+_, _<_, _≤_};
+ghost use lib.Dec.{eqb};
 ghost use lib.ListN.{length};
 ghost use Rattle.answers.specs.Numbers.{numberOf};
+ghost use Rattle.channel.specs.Rules.{both};
 ghost use Rattle.group.specs.Answers.{refused, leaves, left};
-ghost use Rattle.group.specs.State.{idle, keepsRule, within, joinedOn, followed};
+ghost use Rattle.group.specs.State.{idle, keepsRule, within, inStep, joinedOn};
 use crate::Group;
 use crate::LAST_NUMBER;
 use crate::MESSAGE_DATA;
@@ -38,7 +40,7 @@ pub(crate) fn refused(refusal: Refusal, group: Group) -> Stepped
 }
 
 // Whether the numbers are as the phase has them.
-pub(crate) fn keeps_rule(group: Group) -> bool
+fn keeps_rule(group: Group) -> bool
     ensures { λ r. ⌜ r ≡ keepsRule group ⌝ }
 {
     let phase = group.phase;
@@ -72,9 +74,13 @@ pub(crate) fn keeps_rule(group: Group) -> bool
     }
 }
 
-pub(crate) fn within_widths(message: Fields, length: usize) -> bool
-    ensures { λ r. ⌜ r ≡ within message length ⌝ }
+// Whether the state is as its phase has it and the message within its widths.
+pub(crate) fn within_rules(group: Group, message: Fields, length: usize) -> bool
+    ensures { λ r. ⌜ r ≡ both (keepsRule group) (within message length) ⌝ }
 {
+    if !keeps_rule(group) {
+        return false;
+    }
     if LAST_NUMBER < message.number {
         return false;
     }
@@ -87,23 +93,39 @@ pub(crate) fn within_widths(message: Fields, length: usize) -> bool
     message.ci <= 3
 }
 
-// A message that is no First.
-pub(crate) fn follow(group: Group, message: Fields, data: &[u8], buffer: &mut [u8]) -> Stepped
-    requires { ⌜ (keepsRule group ≡ true) × (length (now «data») ≤ 255) × (3825 ≤ length (now buffer)) ⌝ }
-    ensures { λ r. ⌜ left r (now (buffer .exit)) ≡ followed (group .phase) group message (now («data» .entry)) (now (buffer .entry)) ⌝ }
+// Whether a message is of this group: its service number, and no COM.
+pub(crate) fn belongs(group: Group, message: Fields) -> bool
+    ensures { λ r. ⌜ r ≡ both (eqb (message .number) (group .number)) (not (message .command)) ⌝ }
 {
+    if message.number != group.number {
+        return false;
+    }
+    !message.command
+}
+
+// What the data is joined on to: a First drops whatever was gathered.
+pub(crate) fn base(group: Group, message: Fields) -> Group
+    ensures { λ r. ⌜ r ≡ cond (message .first) (idle (group .number)) group ⌝ }
+{
+    if message.first {
+        return idle(group.number);
+    }
+    group
+}
+
+// A First is always in step.
+pub(crate) fn in_step(group: Group, message: Fields) -> bool
+    requires { ⌜ group .ci ≤ 3 ⌝ }
+    ensures { λ r. ⌜ r ≡ inStep (message .first) (group .phase) (group .ci) (message .ci) ⌝ }
+{
+    if message.first {
+        return true;
+    }
     let phase = group.phase;
-    let number = group.number;
-    if let Phase::Idle = phase {
-        return refused(Refusal::OutOfStep, group);
+    match phase {
+        Phase::Idle => false,
+        Phase::Gathering => message.ci == (group.ci + 1) % 4,
     }
-    if message.ci != (group.ci + 1) % 4 {
-        return refused(Refusal::OutOfStep, idle(number));
-    }
-    if Group::MOST_MESSAGES <= group.messages {
-        return refused(Refusal::TooMany, idle(number));
-    }
-    join_on(group, message, data, buffer)
 }
 
 // Writes the data at the counted place. With Last the group is whole.
