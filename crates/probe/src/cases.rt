@@ -1,131 +1,213 @@
-// What the commands share: reading an argument of a line, and putting an answer.
-ghost use Prim.Native.Nat.{_≤_};
+// Reads a line as a case: a command of the table, and its arguments by the command's row.
 ghost use Rattle.io.specs.Counts.{Counts};
-use crate::put;
-use answers::Answer;
+use crate::floats;
 use text::Bytes;
-use text::Flag;
 use text::Number;
 
-// The most bytes of an argument that is no log.
-pub const MOST: usize = 32768;
+// The commands, and for each the kinds of its arguments: a number below 256 (s), 65,536 (m) or 2^32 (w), a flag (f), the
+// phase of a channel (p) or of a group (g), a binary64 (d), bytes (i), a log (l), the bytes of a channel (c), an output (o).
+const NAMES: [u8; 126] =
+    *b"correct\tread-block\twrite-block\tnew-channel\tstep\twrite-message\tnew-group\tjoin\twrite-group\tkhz\tchannel\tlog\tsummary\treport\texport";
 
-// The line is no case.
-pub(crate) fn bad(room: &mut [u8], at: usize) -> usize {
-    put::word(room, at, b"bad case\n")
+const ROWS: [u8; 89] =
+    *b"io\tio\tio\t\tcwpsi\tssffmffsio\tm\tmgwssssffmfio\tmsfssio\tm\tw\tl\tswwwwwww\tswwwwwwwo\tswwwwwwwfdfdo";
+
+// More than the arguments of a case.
+pub const MOST: usize = 14;
+
+// The bytes of a channel.
+const CHANNEL: usize = 260;
+
+// The place of the command in the table, its arguments that are numbers, each at its place, and how many bytes are given
+// and lent.
+pub struct Case {
+    pub command: usize,
+    pub numbers: [u64; MOST],
+    pub given: usize,
+    pub lent: usize,
 }
 
-// Whether an argument can be read as bytes, and how many there are.
+// Whether an argument can be read, and its number, or how many bytes it has.
 pub struct Argument {
     pub readable: bool,
-    pub count: usize,
+    pub number: u64,
 }
 
-// The bytes of an argument, at most so many, at the start of a room.
-pub(crate) fn bytes_at(line: &[u8], index: usize, most: usize, room: &mut [u8]) -> Argument
-    ensures { λ r. ⌜ Counts (r .count) (now (room .exit)) ⌝ }
+struct Numbers {
+    readable: bool,
+    numbers: [u64; MOST],
+}
+
+// 131,072 zeros, which a log may fill.
+pub(crate) fn room() -> [u8; 131072] {
+    [0; 131072]
+}
+
+// How many of so many bytes a room has.
+pub(crate) fn within(count: usize, room: &[u8]) -> usize
+    ensures { λ r. ⌜ Counts r (now (room .entry)) ⌝ }
 {
-    let digits = text::field(line, index);
-    if most < digits.len() / 2 {
-        return Argument {
+    if count < room.len() {
+        return count;
+    }
+    room.len()
+}
+
+// Reads a line. The bytes that are given and lent come to the start of their rooms.
+pub(crate) fn read(line: &[u8], given: &mut [u8], lent: &mut [u8]) -> Case {
+    let command = word(text::field(line, 0), &NAMES);
+    let row = text::field(&ROWS, command.number as usize);
+    let numbers = read_numbers(line, row);
+    let input = read_bytes(line, place_of(row, b'i', b'l'), given);
+    let output = read_bytes(line, place_of(row, b'o', b'c'), lent);
+    case_of(command, numbers, input, output)
+}
+
+// A line that is no case has no command of the table.
+fn case_of(command: Argument, arguments: Numbers, given: Argument, lent: Argument) -> Case {
+    let numbers = arguments.numbers;
+    let mut case = Case {
+        command: usize::MAX,
+        numbers,
+        given: given.number as usize,
+        lent: lent.number as usize,
+    };
+    if !arguments.readable {
+        return case;
+    }
+    if !given.readable {
+        return case;
+    }
+    if !lent.readable {
+        return case;
+    }
+    case.command = command.number as usize;
+    case
+}
+
+// The place of a word in a list. Behind the last word of a list the empty one is found, which is none.
+fn word(word: &[u8], list: &[u8]) -> Argument {
+    let mut i = 0;
+    while i < list.len() {
+        if text::same(word, text::field(list, i)) {
+            return Argument {
+                readable: 0 < word.len(),
+                number: i as u64,
+            };
+        }
+        i += 1;
+    }
+    Argument {
+        readable: false,
+        number: i as u64,
+    }
+}
+
+// Reads each argument by its kind. The line has to have one for each kind, and no more.
+fn read_numbers(line: &[u8], row: &[u8]) -> Numbers {
+    let mut numbers = [0u64; MOST];
+    let mut i = 0;
+    while i < MOST {
+        if row.len() <= i {
+            return Numbers {
+                readable: text::arguments(line) == i,
+                numbers,
+            };
+        }
+        let argument = read_number(row[i], text::field(line, i + 1));
+        if !argument.readable {
+            return Numbers {
+                readable: false,
+                numbers,
+            };
+        }
+        numbers[i] = argument.number;
+        i += 1;
+    }
+    Numbers {
+        readable: false,
+        numbers,
+    }
+}
+
+// An argument of a kind. Of bytes only the length is looked at.
+fn read_number(kind: u8, digits: &[u8]) -> Argument {
+    match kind {
+        b's' => number(digits, 255),
+        b'm' => number(digits, 65535),
+        b'w' => number(digits, u32::MAX),
+        b'f' => word(digits, b"0\t1"),
+        b'p' => word(digits, b"waiting\tready\tgathering"),
+        b'g' => word(digits, b"idle\tgathering"),
+        b'd' => floats::read(digits),
+        b'c' => sized(digits, CHANNEL, CHANNEL),
+        b'l' => sized(digits, 0, 131072),
+        _ => sized(digits, 0, 32768),
+    }
+}
+
+fn number(digits: &[u8], most: u32) -> Argument {
+    match text::read_number(digits, most) {
+        Number::Is(number) => Argument {
+            readable: true,
+            number: number as u64,
+        },
+        Number::Unreadable => Argument {
             readable: false,
-            count: 0,
+            number: 0,
+        },
+    }
+}
+
+// Whether the bytes are neither too few nor too many.
+fn sized(digits: &[u8], least: usize, most: usize) -> Argument {
+    let count = digits.len() / 2;
+    let mut argument = Argument {
+        readable: false,
+        number: 0,
+    };
+    if count < least {
+        return argument;
+    }
+    argument.readable = count <= most;
+    argument
+}
+
+// Behind how many tabs the argument of one of two kinds stands; 0 where there is none.
+fn place_of(row: &[u8], one: u8, other: u8) -> usize {
+    let mut i = 0;
+    while i < row.len() {
+        if row[i] == one {
+            return i + 1;
+        }
+        if row[i] == other {
+            return i + 1;
+        }
+        i += 1;
+    }
+    0
+}
+
+// Reads the bytes of an argument. Where there is none, the room has the bytes that a channel needs.
+fn read_bytes(line: &[u8], place: usize, room: &mut [u8]) -> Argument {
+    if place == 0 {
+        return Argument {
+            readable: true,
+            number: CHANNEL as u64,
         };
     }
+    bytes(text::field(line, place), room)
+}
+
+pub(crate) fn bytes(digits: &[u8], room: &mut [u8]) -> Argument {
     match text::read_bytes(digits, room) {
         Bytes::Are(count) => Argument {
             readable: true,
-            count: count,
+            number: count as u64,
         },
         Bytes::Unreadable => Argument {
             readable: false,
-            count: 0,
+            number: 0,
         },
-    }
-}
-
-// The name of the success, or the number of the refusal.
-pub(crate) fn put_answer(room: &mut [u8], at: usize, answer: Answer, success: &[u8]) -> usize {
-    match answer {
-        Answer::Accepted => put::word(room, at, success),
-        Answer::Refused(refusal) => put::number(room, at, answers::number(refusal) as u64),
-    }
-}
-
-// A further field, which is a number.
-pub(crate) fn put_number(room: &mut [u8], at: usize, number: u64) -> usize {
-    let parted = put::byte(room, at, b'\t');
-    put::number(room, parted, number)
-}
-
-// The last field, which is bytes.
-pub(crate) fn put_bytes(room: &mut [u8], at: usize, bytes: &[u8]) -> usize {
-    let parted = put::byte(room, at, b'\t');
-    let end = put::bytes(room, parted, bytes);
-    put::byte(room, end, b'\n')
-}
-
-// A further field, which is a word.
-pub(crate) fn put_word(room: &mut [u8], at: usize, word: &[u8]) -> usize {
-    let parted = put::byte(room, at, b'\t');
-    put::word(room, parted, word)
-}
-
-// A further field, which is a flag.
-pub(crate) fn put_flag(room: &mut [u8], at: usize, flag: bool) -> usize {
-    if flag {
-        return put_word(room, at, b"1");
-    }
-    put_word(room, at, b"0")
-}
-
-// Whether an argument is a number, at most so great.
-pub(crate) fn is_number(line: &[u8], index: usize, most: u32) -> bool {
-    match text::read_number(text::field(line, index), most) {
-        Number::Is(_) => true,
-        Number::Unreadable => false,
-    }
-}
-
-// The number of an argument that is one, at most so great, else 0.
-pub(crate) fn number_at(line: &[u8], index: usize, most: u32) -> u32
-    ensures { λ r. ⌜ r ≤ most ⌝ }
-{
-    match text::read_number(text::field(line, index), most) {
-        Number::Is(number) => {
-            if most < number {
-                return 0;
-            }
-            number
-        }
-        Number::Unreadable => 0,
-    }
-}
-
-// A number below 256, of an argument that is one.
-pub(crate) fn small_at(line: &[u8], index: usize) -> u8 {
-    number_at(line, index, 255) as u8
-}
-
-// A number below 65,536, of an argument that is one.
-pub(crate) fn middle_at(line: &[u8], index: usize) -> u16 {
-    number_at(line, index, 65535) as u16
-}
-
-// Whether an argument is a flag.
-pub(crate) fn is_flag(line: &[u8], index: usize) -> bool {
-    match text::read_flag(text::field(line, index)) {
-        Flag::Clear => true,
-        Flag::Set => true,
-        Flag::Unreadable => false,
-    }
-}
-
-// Whether an argument is a flag that is set.
-pub(crate) fn flag_at(line: &[u8], index: usize) -> bool {
-    match text::read_flag(text::field(line, index)) {
-        Flag::Clear => false,
-        Flag::Set => true,
-        Flag::Unreadable => false,
     }
 }

@@ -2,25 +2,20 @@
 // sixteen `n`, and read as the quotient of zeros, whichever of its patterns stands there.
 ghost use Prim.Native.Nat.{_<_};
 use crate::cases;
+use crate::cases::Argument;
 use crate::put;
 
-pub(crate) fn is_float(line: &[u8], index: usize) -> bool {
-    if text::field(line, index).len() != 16 {
-        return false;
-    }
-    let mut bytes = [0u8; 8];
-    let given = cases::bytes_at(line, index, 8, &mut bytes);
-    given.readable
-}
+// One of the patterns of what is no number.
+const NO_NUMBER: u64 = 9221120237041090560;
 
-// The binary64 of an argument that is one.
-pub(crate) fn float_at(line: &[u8], index: usize) -> f64 {
+// The bits in an argument.
+pub(crate) fn read(digits: &[u8]) -> Argument {
     let mut bytes = [0u8; 8];
-    let given = cases::bytes_at(line, index, 8, &mut bytes);
-    if given.count != 8 {
-        return 0.0;
+    let given = cases::bytes(digits, &mut bytes);
+    Argument {
+        readable: given.number == 8,
+        number: number_of(bytes),
     }
-    of_bits(number_of(bytes))
 }
 
 fn number_of(bytes: [u8; 8]) -> u64 {
@@ -40,24 +35,26 @@ fn wide(byte: u8) -> u64
 }
 
 // All ones in the exponent and something behind it is no number.
-fn of_bits(bits: u64) -> f64 {
+pub(crate) fn of_bits(bits: u64) -> f64 {
     if 9218868437227405312 < bits % 9223372036854775808 {
         return 0.0 / 0.0;
     }
     f64::from_bits(bits)
 }
 
-pub(crate) fn put(answers: &mut [u8], at: usize, float: f64) -> usize {
+pub(crate) fn bits_of(float: f64) -> u64 {
     if float != float {
-        return cases::put_word(answers, at, b"nnnnnnnnnnnnnnnn");
+        return NO_NUMBER;
     }
-    put_bits(answers, at, f64::to_bits(float))
+    f64::to_bits(float)
 }
 
-fn put_bits(answers: &mut [u8], at: usize, bits: u64) -> usize {
+pub(crate) fn put(room: &mut [u8], at: usize, bits: u64) -> usize {
+    if bits == NO_NUMBER {
+        return put::word(room, at, b"nnnnnnnnnnnnnnnn");
+    }
     let bytes = bytes_of(bits);
-    let parted = put::byte(answers, at, b'\t');
-    put::bytes(answers, parted, &bytes)
+    put::bytes(room, at, &bytes)
 }
 
 // The bytes of a number, greatest first.

@@ -1,217 +1,122 @@
 // The groups' commands.
-use crate::cases;
 use crate::messages;
-use crate::put;
+use crate::told;
+use crate::told::Told;
 use group::Group;
 use group::Phase;
 use group::Step;
-use group::Stepped;
 use group::writer::Series;
 
-pub(crate) fn has(command: &[u8]) -> bool {
-    if text::same(command, b"new-group") {
-        return true;
-    }
-    if text::same(command, b"join") {
-        return true;
-    }
-    text::same(command, b"write-group")
-}
-
-pub(crate) fn answer(line: &[u8], answers: &mut [u8], at: usize) -> usize {
-    let command = text::field(line, 0);
-    let arguments = text::arguments(line);
-    if text::same(command, b"new-group") {
-        if arguments != 1 {
-            return cases::bad(answers, at);
-        }
-        return new_group(line, answers, at);
-    }
-    if text::same(command, b"join") {
-        if arguments != 13 {
-            return cases::bad(answers, at);
-        }
-        return join(line, answers, at);
-    }
-    if arguments != 7 {
-        return cases::bad(answers, at);
-    }
-    write_group(line, answers, at)
-}
-
-fn new_group(line: &[u8], answers: &mut [u8], at: usize) -> usize {
-    if !cases::is_number(line, 1, 65535) {
-        return cases::bad(answers, at);
-    }
-    let made = Group::new(cases::middle_at(line, 1));
+pub(crate) fn new_group(numbers: [u64; 14]) -> Told {
+    let made = Group::new((numbers[0] % 65536) as u16);
     let answer = made.answer;
     let group = made.group;
-    let answered = cases::put_answer(answers, at, answer, b"fresh");
-    let end = put_state(answers, answered, group);
-    put::byte(answers, end, b'\n')
+    state(6, told::refusal(answer), group)
 }
 
-fn is_state(line: &[u8]) -> bool {
-    if !cases::is_number(line, 1, 65535) {
-        return false;
+pub(crate) fn join(numbers: [u64; 14], data: &[u8], buffer: &mut [u8]) -> Told {
+    let group = state_in(numbers);
+    let message = messages::fields_at(numbers, 5);
+    let stepped = group.join(message, data, buffer);
+    let answer = stepped.answer;
+    let next = stepped.group;
+    match answer {
+        Step::Taken => state(7, 0, next),
+        Step::Whole(length) => whole(length, next),
+        Step::Refused(refusal) => state(7, answers::number(refusal) as u64, next),
     }
-    if !is_phase(text::field(line, 2)) {
-        return false;
-    }
-    if !cases::is_number(line, 3, u32::MAX) {
-        return false;
-    }
-    if !cases::is_number(line, 4, 255) {
-        return false;
-    }
-    cases::is_number(line, 5, 255)
-}
-
-fn is_phase(word: &[u8]) -> bool {
-    if text::same(word, b"idle") {
-        return true;
-    }
-    text::same(word, b"gathering")
 }
 
 // The state in the first five arguments.
-fn state_in(line: &[u8]) -> Group {
+fn state_in(numbers: [u64; 14]) -> Group {
     Group {
-        number: cases::middle_at(line, 1),
-        phase: phase_of(text::field(line, 2)),
-        held: cases::number_at(line, 3, u32::MAX) as usize,
-        messages: cases::small_at(line, 4),
-        ci: cases::small_at(line, 5),
+        number: (numbers[0] % 65536) as u16,
+        phase: phase_of(numbers[1]),
+        held: numbers[2] as usize,
+        messages: (numbers[3] % 256) as u8,
+        ci: (numbers[4] % 256) as u8,
     }
 }
 
-fn phase_of(word: &[u8]) -> Phase {
-    if text::same(word, b"idle") {
+fn phase_of(number: u64) -> Phase {
+    if number == 0 {
         return Phase::Idle;
     }
     Phase::Gathering
 }
 
-fn put_state(answers: &mut [u8], at: usize, group: Group) -> usize {
-    let phase = group.phase;
-    let number = cases::put_number(answers, at, group.number as u64);
-    let phased = put_phase(answers, number, phase);
-    let held = cases::put_number(answers, phased, group.held as u64);
-    let messages = cases::put_number(answers, held, group.messages as u64);
-    cases::put_number(answers, messages, group.ci as u64)
-}
-
-fn put_phase(answers: &mut [u8], at: usize, phase: Phase) -> usize {
+fn number_of(phase: Phase) -> u64 {
     match phase {
-        Phase::Idle => cases::put_word(answers, at, b"idle"),
-        Phase::Gathering => cases::put_word(answers, at, b"gathering"),
+        Phase::Idle => 0,
+        Phase::Gathering => 1,
     }
 }
 
-fn join(line: &[u8], answers: &mut [u8], at: usize) -> usize {
-    if !is_state(line) {
-        return cases::bad(answers, at);
-    }
-    if !messages::are_fields(line, 6) {
-        return cases::bad(answers, at);
-    }
-    let mut bytes = [0u8; 32768];
-    let given = cases::bytes_at(line, 12, cases::MOST, &mut bytes);
-    if !given.readable {
-        return cases::bad(answers, at);
-    }
-    let mut room = [0u8; 32768];
-    let lent = cases::bytes_at(line, 13, cases::MOST, &mut room);
-    if !lent.readable {
-        return cases::bad(answers, at);
-    }
-    let n = given.count;
-    let m = lent.count;
-    put_joined(line, &bytes[..n], &mut room[..m], answers, at)
-}
-
-fn put_joined(line: &[u8], data: &[u8], buffer: &mut [u8], answers: &mut [u8], at: usize) -> usize {
-    let group = state_in(line);
-    let message = messages::fields_at(line, 6);
-    let stepped = group.join(message, data, buffer);
-    let end = put_stepped(answers, at, stepped);
-    cases::put_bytes(answers, end, buffer)
-}
-
-fn put_stepped(answers: &mut [u8], at: usize, stepped: Stepped) -> usize {
-    let answer = stepped.answer;
-    let group = stepped.group;
-    let answered = put_step(answers, at, answer);
-    put_state(answers, answered, group)
-}
-
-fn put_step(answers: &mut [u8], at: usize, answer: Step) -> usize {
-    match answer {
-        Step::Taken => put::word(answers, at, b"taken"),
-        Step::Whole(length) => put_whole(answers, at, length),
-        Step::Refused(refusal) => put::number(answers, at, answers::number(refusal) as u64),
+// A state behind an answer.
+fn state(form: usize, refusal: u64, group: Group) -> Told {
+    let number = group.number as u64;
+    let phase = group.phase;
+    let held = group.held as u64;
+    let messages = group.messages as u64;
+    let ci = group.ci as u64;
+    Told {
+        form,
+        numbers: [
+            refusal,
+            number,
+            number_of(phase),
+            held,
+            messages,
+            ci,
+            0,
+            0,
+            0,
+            0,
+            0,
+            0,
+            0,
+            0,
+        ],
     }
 }
 
-fn put_whole(answers: &mut [u8], at: usize, length: usize) -> usize {
-    let named = put::word(answers, at, b"group");
-    cases::put_number(answers, named, length as u64)
-}
-
-fn is_series(line: &[u8]) -> bool {
-    if !cases::is_number(line, 1, 65535) {
-        return false;
-    }
-    if !cases::is_number(line, 2, 255) {
-        return false;
-    }
-    if !cases::is_flag(line, 3) {
-        return false;
-    }
-    if !cases::is_number(line, 4, 255) {
-        return false;
-    }
-    cases::is_number(line, 5, 255)
-}
-
-// What a group is written with, in the first five arguments.
-fn series_in(line: &[u8]) -> Series {
-    Series {
-        number: cases::middle_at(line, 1),
-        ri: cases::small_at(line, 2),
-        di: cases::flag_at(line, 3),
-        sc: cases::small_at(line, 4),
-        ci: cases::small_at(line, 5),
+// A state behind the length of a group.
+fn whole(length: usize, group: Group) -> Told {
+    let number = group.number as u64;
+    let phase = group.phase;
+    let held = group.held as u64;
+    let messages = group.messages as u64;
+    let ci = group.ci as u64;
+    Told {
+        form: told::GROUP,
+        numbers: [
+            0,
+            length as u64,
+            number,
+            number_of(phase),
+            held,
+            messages,
+            ci,
+            0,
+            0,
+            0,
+            0,
+            0,
+            0,
+            0,
+        ],
     }
 }
 
-fn write_group(line: &[u8], answers: &mut [u8], at: usize) -> usize {
-    if !is_series(line) {
-        return cases::bad(answers, at);
-    }
-    let mut bytes = [0u8; 32768];
-    let given = cases::bytes_at(line, 6, cases::MOST, &mut bytes);
-    if !given.readable {
-        return cases::bad(answers, at);
-    }
-    let mut room = [0u8; 32768];
-    let lent = cases::bytes_at(line, 7, cases::MOST, &mut room);
-    if !lent.readable {
-        return cases::bad(answers, at);
-    }
-    let n = given.count;
-    let m = lent.count;
-    put_written(line, &bytes[..n], &mut room[..m], answers, at)
-}
-
-fn put_written(
-    line: &[u8],
-    data: &[u8],
-    output: &mut [u8],
-    answers: &mut [u8],
-    at: usize,
-) -> usize {
-    let series = series_in(line);
+pub(crate) fn write_group(numbers: [u64; 14], data: &[u8], output: &mut [u8]) -> Told {
+    let series = Series {
+        number: (numbers[0] % 65536) as u16,
+        ri: (numbers[1] % 256) as u8,
+        di: numbers[2] == 1,
+        sc: (numbers[3] % 256) as u8,
+        ci: (numbers[4] % 256) as u8,
+    };
     let wrote = group::writer::write_group(series, data, output);
-    messages::put_wrote(answers, at, wrote, output)
+    let answer = wrote.answer;
+    told::answered(8, answer, wrote.blocks as u64)
 }

@@ -7,96 +7,91 @@ mod groups;
 mod messages;
 mod put;
 mod surveys;
+mod told;
 
+use cases::Case;
 use libc::STDERR_FILENO;
 use libc::STDIN_FILENO;
 use libc::STDOUT_FILENO;
+use told::Told;
 
 const LINE_FEED: u8 = 10;
 
-// More than an answer takes: whatever is lent stands in the line too, which has at most 262,143 bytes.
-const ANSWER: usize = 266240;
-
-// The line that is being gathered has a length, and is long where it has more bytes than a case can have. So many bytes
-// of answers wait to be written. There is more to do until the input ends or nothing more can be written.
+// The line that is being gathered has a length, and so many bytes of answers wait to be written. There is more to do
+// until the input ends or nothing more can be written.
 struct State {
     length: usize,
-    long: bool,
     waiting: usize,
     more: bool,
 }
 
-// Puts the answer to a line: the area of its command knows it, or it is no case.
+// Calls the function of a command, by the place of the command in the table.
+fn call(command: usize, numbers: [u64; 14], given: &[u8], lent: &mut [u8]) -> Told {
+    match command {
+        0 => blocks::correct(given, lent),
+        1 => blocks::read_block(given, lent),
+        2 => blocks::write_block(given, lent),
+        3 => messages::new_channel(lent),
+        4 => messages::step(numbers, given, lent),
+        5 => messages::write_message(numbers, given, lent),
+        7 => groups::join(numbers, given, lent),
+        8 => groups::write_group(numbers, given, lent),
+        13 => surveys::report(numbers, lent),
+        14 => surveys::export(numbers, lent),
+        _ => call_plain(command, numbers, given),
+    }
+}
+
+// The commands that are lent nothing.
+fn call_plain(command: usize, numbers: [u64; 14], given: &[u8]) -> Told {
+    match command {
+        6 => groups::new_group(numbers),
+        9 => surveys::khz(numbers),
+        10 => surveys::channel(numbers),
+        11 => surveys::read_log(given),
+        12 => surveys::summarise(numbers),
+        _ => told::bad(),
+    }
+}
+
+// Puts the answer to a line.
 fn answer(line: &[u8], answers: &mut [u8], at: usize) -> usize {
-    let command = text::field(line, 0);
-    if blocks::has(command) {
-        return blocks::answer(line, answers, at);
-    }
-    if messages::has(command) {
-        return messages::answer(line, answers, at);
-    }
-    if groups::has(command) {
-        return groups::answer(line, answers, at);
-    }
-    if surveys::has(command) {
-        return surveys::answer(line, answers, at);
-    }
-    cases::bad(answers, at)
+    let mut given = cases::room();
+    let mut lent = io::large_buffer();
+    let case = cases::read(line, &mut given, &mut lent);
+    let n = cases::within(case.given, &given);
+    let m = cases::within(case.lent, &lent);
+    answer_case(case, &given[..n], &mut lent[..m], answers, at)
 }
 
-// Puts the answer to the line that was gathered.
-fn answer_gathered(line: &[u8], answers: &mut [u8], state: State) -> usize {
-    let length = state.length;
-    let at = state.waiting;
-    if state.long {
-        return cases::bad(answers, at);
-    }
-    if length <= line.len() {
-        return answer(&line[..length], answers, at);
-    }
-    cases::bad(answers, at)
+fn answer_case(case: Case, given: &[u8], lent: &mut [u8], answers: &mut [u8], at: usize) -> usize {
+    let numbers = case.numbers;
+    let told = call(case.command, numbers, given, lent);
+    put::line(answers, at, told, lent)
 }
 
-// Writes the answers that wait. Where they fill their room to the end, some may be missing.
-fn written(answers: &[u8], waiting: usize) -> bool {
-    if answers.len() <= waiting {
-        io::write_all(STDERR_FILENO, b"probe: there is no room for an answer\n");
-        return false;
+// Puts the answer to the line that was gathered. One that fills its room is longer than a case.
+fn answer_gathered(line: &[u8], length: usize, answers: &mut [u8], at: usize) -> usize {
+    if line.len() <= length {
+        return put::line(answers, at, told::bad(), b"");
     }
-    io::write_all(STDOUT_FILENO, &answers[..waiting])
-}
-
-// Answers the line that was gathered, and begins the next. The answers are written where there may be no room for one
-// more.
-fn end_line(line: &[u8], answers: &mut [u8], state: State) -> State {
-    let waiting = answer_gathered(line, answers, state);
-    let mut next = State {
-        length: 0,
-        long: false,
-        waiting: waiting,
-        more: true,
-    };
-    if waiting < ANSWER {
-        return next;
-    }
-    next.more = written(answers, waiting);
-    next.waiting = 0;
-    next
+    let count = cases::within(length, line);
+    answer(&line[..count], answers, at)
 }
 
 // Takes a byte of the input.
 fn take_byte(byte: u8, line: &mut [u8], answers: &mut [u8], state: State) -> State {
-    if byte == LINE_FEED {
-        return end_line(line, answers, state);
-    }
     let at = state.length;
     let mut next = state;
+    if byte == LINE_FEED {
+        next.waiting = answer_gathered(line, at, answers, state.waiting);
+        next.length = 0;
+        return next;
+    }
     if at < line.len() {
         line[at] = byte;
         next.length = at + 1;
-        return next;
     }
-    next.long = true;
     next
 }
 
@@ -106,42 +101,46 @@ fn take_bytes(read: &[u8], line: &mut [u8], answers: &mut [u8], state: State) ->
     let mut i = 0;
     while i < read.len() {
         next = take_byte(read[i], line, answers, next);
-        if !next.more {
-            return next;
-        }
         i += 1;
     }
     next
 }
 
-// The input has ended: a line without its line feed is answered too.
-fn end_input(line: &[u8], answers: &mut [u8], state: State) {
+// Writes the answers that wait. Where they fill their room to the end, some may be missing.
+fn written(answers: &[u8], waiting: usize) -> bool {
+    if answers.len() <= waiting {
+        io::write_all(STDERR_FILENO, b"probe: there is no room for an answer\n");
+        return false;
+    }
+    let count = cases::within(waiting, answers);
+    io::write_all(STDOUT_FILENO, &answers[..count])
+}
+
+// The input has ended or cannot be read: a line without its line feed is answered too.
+fn end_input(got: isize, line: &[u8], answers: &mut [u8], state: State) {
+    if got < 0 {
+        io::write_all(STDERR_FILENO, b"probe: standard input cannot be read\n");
+        return;
+    }
     if state.length == 0 {
         return;
     }
-    let last = end_line(line, answers, state);
-    written(answers, last.waiting);
+    let waiting = answer_gathered(line, state.length, answers, 0);
+    written(answers, waiting);
 }
 
 // Reads once, takes what came, and writes the answers.
 fn take_some(chunk: &mut [u8], line: &mut [u8], answers: &mut [u8], state: State) -> State {
     let got = libc::read(STDIN_FILENO, chunk);
     let count = io::count(got, chunk);
-    let mut next = state;
+    let mut next = take_bytes(&chunk[..count], line, answers, state);
     if count == 0 {
+        end_input(got, line, answers, state);
         next.more = false;
-        if got < 0 {
-            io::write_all(STDERR_FILENO, b"probe: standard input cannot be read\n");
-            return next;
-        }
-        end_input(line, answers, state);
         return next;
     }
-    next = take_bytes(&chunk[..count], line, answers, state);
-    if next.more {
-        next.more = written(answers, next.waiting);
-        next.waiting = 0;
-    }
+    next.more = written(answers, next.waiting);
+    next.waiting = 0;
     next
 }
 
@@ -149,7 +148,6 @@ fn take_some(chunk: &mut [u8], line: &mut [u8], answers: &mut [u8], state: State
 fn take_input(chunk: &mut [u8], line: &mut [u8], answers: &mut [u8]) {
     let mut state = State {
         length: 0,
-        long: false,
         waiting: 0,
         more: true,
     };
@@ -163,9 +161,20 @@ fn take_input(chunk: &mut [u8], line: &mut [u8], answers: &mut [u8]) {
     }
 }
 
+// A byte more than a case has at most.
+fn line_room() -> [u8; 262144] {
+    [0; 262144]
+}
+
+// More than the answers take to what is read at once: a line of it has at least 12 bytes where its answer is longest,
+// 533 bytes, and the first one may end a case that fills its line, whose answer is hardly longer than the case.
+fn answers_room() -> [u8; 532480] {
+    [0; 532480]
+}
+
 fn main() {
-    let mut chunk = [0u8; 65536];
-    let mut line = [0u8; 262143];
-    let mut answers = [0u8; 532480];
+    let mut chunk = io::buffer();
+    let mut line = line_room();
+    let mut answers = answers_room();
     take_input(&mut chunk, &mut line, &mut answers);
 }

@@ -1,244 +1,109 @@
 // The survey's commands.
-ghost use Prim.Native.Nat.{_<_};
-use crate::cases;
 use crate::floats;
-use crate::put;
-use answers::Answer;
+use crate::told;
+use crate::told::Told;
 use band::Kilohertz;
 use log::Counts;
 use summary::Summary;
-use summary::Written;
 
-pub(crate) fn has(command: &[u8]) -> bool {
-    if text::same(command, b"khz") {
-        return true;
-    }
-    if text::same(command, b"channel") {
-        return true;
-    }
-    if text::same(command, b"log") {
-        return true;
-    }
-    if text::same(command, b"summary") {
-        return true;
-    }
-    if text::same(command, b"report") {
-        return true;
-    }
-    text::same(command, b"export")
-}
-
-pub(crate) fn answer(line: &[u8], answers: &mut [u8], at: usize) -> usize {
-    let command = text::field(line, 0);
-    let arguments = text::arguments(line);
-    if text::same(command, b"khz") {
-        return khz(line, arguments, answers, at);
-    }
-    if text::same(command, b"channel") {
-        return channel(line, arguments, answers, at);
-    }
-    if text::same(command, b"log") {
-        return read_log(line, arguments, answers, at);
-    }
-    if !are_counts(line) {
-        return cases::bad(answers, at);
-    }
-    if text::same(command, b"summary") {
-        return summarise(line, arguments, answers, at);
-    }
-    if text::same(command, b"report") {
-        return report(line, arguments, answers, at);
-    }
-    export(line, arguments, answers, at)
-}
-
-fn khz(line: &[u8], arguments: usize, answers: &mut [u8], at: usize) -> usize {
-    if arguments != 1 {
-        return cases::bad(answers, at);
-    }
-    if !cases::is_number(line, 1, 65535) {
-        return cases::bad(answers, at);
-    }
-    let numbered = band::numbered(cases::number_at(line, 1, 65535));
+pub(crate) fn khz(numbers: [u64; 14]) -> Told {
+    let numbered = band::numbered((numbers[0] % 65536) as u32);
     let channel = numbered.channel;
     let told = band::to_kilohertz(channel);
     let answer = told.answer;
     let kilohertz = told.kilohertz;
-    put_told(answers, at, answer, b"khz", kilohertz.0 as u64)
+    told::answered(9, answer, kilohertz.0 as u64)
 }
 
-fn channel(line: &[u8], arguments: usize, answers: &mut [u8], at: usize) -> usize {
-    if arguments != 1 {
-        return cases::bad(answers, at);
-    }
-    if !cases::is_number(line, 1, u32::MAX) {
-        return cases::bad(answers, at);
-    }
-    let told = band::to_channel(Kilohertz(cases::number_at(line, 1, u32::MAX)));
+pub(crate) fn channel(numbers: [u64; 14]) -> Told {
+    let told = band::to_channel(Kilohertz((numbers[0] % 4294967296) as u32));
     let answer = told.answer;
     let channel = told.channel;
-    put_told(answers, at, answer, b"channel", channel.0 as u64)
+    told::answered(10, answer, channel.0 as u64)
 }
 
-fn put_told(answers: &mut [u8], at: usize, answer: Answer, success: &[u8], number: u64) -> usize {
-    let answered = cases::put_answer(answers, at, answer, success);
-    let counted = cases::put_number(answers, answered, number);
-    put::byte(answers, counted, b'\n')
-}
-
-// A log may fill its line.
-fn read_log(line: &[u8], arguments: usize, answers: &mut [u8], at: usize) -> usize {
-    if arguments != 1 {
-        return cases::bad(answers, at);
-    }
-    let mut bytes = [0u8; 131072];
-    let given = cases::bytes_at(line, 1, 131072, &mut bytes);
-    if !given.readable {
-        return cases::bad(answers, at);
-    }
-    let count = given.count;
-    let read = log::read(&bytes[..count]);
+pub(crate) fn read_log(log: &[u8]) -> Told {
+    let read = log::read(log);
     let answer = read.answer;
     let counts = read.counts;
-    let answered = cases::put_answer(answers, at, answer, b"log");
-    let lined = cases::put_number(answers, answered, read.line as u64);
-    put_counts(answers, lined, counts)
-}
-
-fn put_counts(answers: &mut [u8], at: usize, counts: Counts) -> usize {
-    let channel = cases::put_number(answers, at, counts.channel as u64);
-    let slots = cases::put_number(answers, channel, counts.slots as u64);
-    let read = cases::put_number(answers, slots, counts.read as u64);
-    let clean = cases::put_number(answers, read, counts.clean as u64);
-    put_other_counts(answers, clean, counts)
-}
-
-fn put_other_counts(answers: &mut [u8], at: usize, counts: Counts) -> usize {
-    let bits = cases::put_number(answers, at, counts.bits as u64);
-    let noword = cases::put_number(answers, bits, counts.noword as u64);
-    let check = cases::put_number(answers, noword, counts.check as u64);
-    let missing = cases::put_number(answers, check, counts.missing as u64);
-    put::byte(answers, missing, b'\n')
-}
-
-// Whether the first eight arguments are counts.
-fn are_counts(line: &[u8]) -> bool {
-    if !cases::is_number(line, 1, 255) {
-        return false;
+    Told {
+        form: 11,
+        numbers: [
+            told::refusal(answer),
+            read.line as u64,
+            counts.channel as u64,
+            counts.slots as u64,
+            counts.read as u64,
+            counts.clean as u64,
+            counts.bits as u64,
+            counts.noword as u64,
+            counts.check as u64,
+            counts.missing as u64,
+            0,
+            0,
+            0,
+            0,
+        ],
     }
-    let mut index = 2;
-    while index < 9 {
-        if !cases::is_number(line, index, u32::MAX) {
-            return false;
-        }
-        index += 1;
-    }
-    true
 }
 
-fn counts_in(line: &[u8]) -> Counts {
+// The counts in the first eight arguments.
+fn counts_in(numbers: [u64; 14]) -> Counts {
     Counts {
-        channel: cases::small_at(line, 1),
-        slots: cases::number_at(line, 2, u32::MAX),
-        read: cases::number_at(line, 3, u32::MAX),
-        clean: cases::number_at(line, 4, u32::MAX),
-        bits: cases::number_at(line, 5, u32::MAX),
-        noword: cases::number_at(line, 6, u32::MAX),
-        check: cases::number_at(line, 7, u32::MAX),
-        missing: cases::number_at(line, 8, u32::MAX),
+        channel: (numbers[0] % 256) as u8,
+        slots: (numbers[1] % 4294967296) as u32,
+        read: (numbers[2] % 4294967296) as u32,
+        clean: (numbers[3] % 4294967296) as u32,
+        bits: (numbers[4] % 4294967296) as u32,
+        noword: (numbers[5] % 4294967296) as u32,
+        check: (numbers[6] % 4294967296) as u32,
+        missing: (numbers[7] % 4294967296) as u32,
     }
 }
 
-fn summarise(line: &[u8], arguments: usize, answers: &mut [u8], at: usize) -> usize {
-    if arguments != 8 {
-        return cases::bad(answers, at);
-    }
-    let summarised = summary::summarise(counts_in(line));
+pub(crate) fn summarise(numbers: [u64; 14]) -> Told {
+    let summarised = summary::summarise(counts_in(numbers));
     let answer = summarised.answer;
     let record = summarised.summary;
-    let answered = cases::put_answer(answers, at, answer, b"summary");
-    put_summary(answers, answered, record)
-}
-
-fn put_summary(answers: &mut [u8], at: usize, record: Summary) -> usize {
-    let has_mean = cases::put_flag(answers, at, record.mean_exists);
-    let mean = floats::put(answers, has_mean, record.mean);
-    let has_missing = cases::put_flag(answers, mean, record.missing_exists);
-    let missing = floats::put(answers, has_missing, record.missing);
-    put::byte(answers, missing, b'\n')
-}
-
-fn report(line: &[u8], arguments: usize, answers: &mut [u8], at: usize) -> usize {
-    if arguments != 9 {
-        return cases::bad(answers, at);
+    let mean = floats::bits_of(record.mean);
+    let missing = floats::bits_of(record.missing);
+    let has_mean = record.mean_exists as u64;
+    let has_missing = record.missing_exists as u64;
+    Told {
+        form: 12,
+        numbers: [
+            told::refusal(answer),
+            has_mean,
+            mean,
+            has_missing,
+            missing,
+            0,
+            0,
+            0,
+            0,
+            0,
+            0,
+            0,
+            0,
+            0,
+        ],
     }
-    let mut room = [0u8; 32768];
-    let lent = cases::bytes_at(line, 9, cases::MOST, &mut room);
-    if !lent.readable {
-        return cases::bad(answers, at);
-    }
-    let count = lent.count;
-    put_report(line, &mut room[..count], answers, at)
 }
 
-fn put_report(line: &[u8], output: &mut [u8], answers: &mut [u8], at: usize) -> usize {
-    let written = summary::report(counts_in(line), output);
-    put_written(answers, at, written, b"report", output)
-}
-
-fn put_written(
-    answers: &mut [u8],
-    at: usize,
-    written: Written,
-    success: &[u8],
-    output: &[u8],
-) -> usize {
+pub(crate) fn report(numbers: [u64; 14], output: &mut [u8]) -> Told {
+    let written = summary::report(counts_in(numbers), output);
     let answer = written.answer;
-    let answered = cases::put_answer(answers, at, answer, success);
-    let counted = cases::put_number(answers, answered, written.length as u64);
-    cases::put_bytes(answers, counted, output)
+    told::answered(13, answer, written.length as u64)
 }
 
-// Whether the arguments behind the counts are a summary.
-fn is_summary(line: &[u8]) -> bool {
-    if !cases::is_flag(line, 9) {
-        return false;
-    }
-    if !floats::is_float(line, 10) {
-        return false;
-    }
-    if !cases::is_flag(line, 11) {
-        return false;
-    }
-    floats::is_float(line, 12)
-}
-
-fn summary_in(line: &[u8]) -> Summary {
-    Summary {
-        mean_exists: cases::flag_at(line, 9),
-        mean: floats::float_at(line, 10),
-        missing_exists: cases::flag_at(line, 11),
-        missing: floats::float_at(line, 12),
-    }
-}
-
-fn export(line: &[u8], arguments: usize, answers: &mut [u8], at: usize) -> usize {
-    if arguments != 13 {
-        return cases::bad(answers, at);
-    }
-    if !is_summary(line) {
-        return cases::bad(answers, at);
-    }
-    let mut room = [0u8; 32768];
-    let lent = cases::bytes_at(line, 13, cases::MOST, &mut room);
-    if !lent.readable {
-        return cases::bad(answers, at);
-    }
-    let count = lent.count;
-    put_row(line, &mut room[..count], answers, at)
-}
-
-fn put_row(line: &[u8], output: &mut [u8], answers: &mut [u8], at: usize) -> usize {
-    let written = summary::export(counts_in(line), summary_in(line), output);
-    put_written(answers, at, written, b"row", output)
+pub(crate) fn export(numbers: [u64; 14], output: &mut [u8]) -> Told {
+    let record = Summary {
+        mean_exists: numbers[8] == 1,
+        mean: floats::of_bits(numbers[9]),
+        missing_exists: numbers[10] == 1,
+        missing: floats::of_bits(numbers[11]),
+    };
+    let written = summary::export(counts_in(numbers), record, output);
+    let answer = written.answer;
+    told::answered(14, answer, written.length as u64)
 }

@@ -1,7 +1,6 @@
 -- `probe::take_input`: the turns count down, and the rooms keep their lengths. Assumes nothing.
-use mathlib.Core.Path.{_≡_, refl, _∙_}
-use native.Mathlib.Omega.{arith}
 use lib.ListN.{length}
+use mathlib.Core.Path.{_≡_}
 use borrow.Author.Needs.{needs}
 use Rattle.probe.proofs.take_input.Statement.{statement}
 use Rattle.probe.proofs.take_input.Tie as tie
@@ -13,7 +12,7 @@ abbrev μ-loop : tie.MeasureT-loop
 μ-loop chunk₀ line₀ answers₀ state₀ turns₀ chunk line answers state turns = turns
 
 loop-holds : tie.Need-loop-holds Inv-loop μ-loop
-loop-holds c = (refl, refl, refl)
+loop-holds c = search needs
 
 take-some-requires : tie.Need-take-some-requires Inv-loop μ-loop
 take-some-requires c κs = search needs
@@ -31,16 +30,13 @@ returns : tie.Need-returns Inv-loop μ-loop
 returns c = search needs
 
 sub-turns : tie.Need-sub-turns Inv-loop μ-loop
-sub-turns c = omega arith
+sub-turns c = search needs
 
 loop-less : tie.Need-loop-less Inv-loop μ-loop
-loop-less c = omega arith
+loop-less c = search needs
 
 loop-again : tie.Need-loop-again Inv-loop μ-loop
-loop-again c =
-    let p = c .before .before .before .before .before .before .before .before in
-    let l = p .before .before .before .before .before in
-    (p .take-some .kept .0 ∙ l .loop .inv .0, p .take-some .kept .1 .0 ∙ l .loop .inv .1, p .take-some .kept .1 .1 .0 ∙ l .loop .inv .2)
+loop-again c = search needs
 
 same-length-4 : tie.Need-same-length-4 Inv-loop μ-loop
 same-length-4 c = search needs
