@@ -115,13 +115,10 @@ fn read_numbers(line: &[u8], row: &[u8]) -> Numbers {
             };
         }
         let argument = read_number(row[i], text::field(line, i + 1));
-        if !argument.readable {
-            return Numbers {
-                readable: false,
-                numbers,
-            };
-        }
         numbers[i] = argument.number;
+        if !argument.readable {
+            break;
+        }
         i += 1;
     }
     Numbers {

@@ -20,10 +20,14 @@ pub(crate) fn join(numbers: [u64; 14], data: &[u8], buffer: &mut [u8]) -> Told {
     let stepped = group.join(message, data, buffer);
     let answer = stepped.answer;
     let next = stepped.group;
+    told_of(answer, next)
+}
+
+fn told_of(answer: Step, group: Group) -> Told {
     match answer {
-        Step::Taken => state(7, 0, next),
-        Step::Whole(length) => whole(length, next),
-        Step::Refused(refusal) => state(7, answers::number(refusal) as u64, next),
+        Step::Taken => state(7, 0, group),
+        Step::Whole(length) => whole(length, group),
+        Step::Refused(refusal) => state(7, answers::number(refusal) as u64, group),
     }
 }
 
@@ -47,8 +51,8 @@ fn phase_of(number: u64) -> Phase {
 
 fn number_of(phase: Phase) -> u64 {
     match phase {
-        Phase::Idle => 0,
-        Phase::Gathering => 1,
+        Phase::Idle => 3,
+        Phase::Gathering => 2,
     }
 }
 

@@ -9,7 +9,7 @@ mod put;
 mod surveys;
 mod told;
 
-use cases::Case;
+ghost use Rattle.io.specs.Counts.{Counts};
 use libc::STDERR_FILENO;
 use libc::STDIN_FILENO;
 use libc::STDOUT_FILENO;
@@ -17,12 +17,16 @@ use told::Told;
 
 const LINE_FEED: u8 = 10;
 
-// The line that is being gathered has a length, and so many bytes of answers wait to be written. There is more to do
-// until the input ends or nothing more can be written.
+// So many bytes were read at once, of which the first ones are taken. The line that is being gathered has a length, and
+// is whole once its end was met. So many bytes of answers wait to be written. Nothing more comes where the input has
+// ended.
 struct State {
+    taken: usize,
+    read: usize,
     length: usize,
+    whole: bool,
     waiting: usize,
-    more: bool,
+    ended: bool,
 }
 
 // Calls the function of a command, by the place of the command in the table.
@@ -54,53 +58,50 @@ fn call_plain(command: usize, numbers: [u64; 14], given: &[u8]) -> Told {
     }
 }
 
-// Puts the answer to a line.
-fn answer(line: &[u8], answers: &mut [u8], at: usize) -> usize {
+// A line that fills its room is too long: it is taken for the empty one, which is no case either.
+fn fitting(length: usize, line: &[u8]) -> usize
+    ensures { λ r. ⌜ Counts r (now (line .entry)) ⌝ }
+{
+    if length < line.len() {
+        return cases::within(length, line);
+    }
+    cases::within(0, line)
+}
+
+// Puts the answer to the line that was gathered, once it is whole, and begins the next.
+fn answer(line: &[u8], answers: &mut [u8], state: State) -> State {
+    if !state.whole {
+        return state;
+    }
+    let length = fitting(state.length, line);
     let mut given = cases::room();
     let mut lent = io::large_buffer();
-    let case = cases::read(line, &mut given, &mut lent);
+    let case = cases::read(&line[..length], &mut given, &mut lent);
+    let numbers = case.numbers;
     let n = cases::within(case.given, &given);
     let m = cases::within(case.lent, &lent);
-    answer_case(case, &given[..n], &mut lent[..m], answers, at)
-}
-
-fn answer_case(case: Case, given: &[u8], lent: &mut [u8], answers: &mut [u8], at: usize) -> usize {
-    let numbers = case.numbers;
-    let told = call(case.command, numbers, given, lent);
-    put::line(answers, at, told, lent)
-}
-
-// Puts the answer to the line that was gathered. One that fills its room is longer than a case.
-fn answer_gathered(line: &[u8], length: usize, answers: &mut [u8], at: usize) -> usize {
-    if line.len() <= length {
-        return put::line(answers, at, told::bad(), b"");
-    }
-    let count = cases::within(length, line);
-    answer(&line[..count], answers, at)
-}
-
-// Takes a byte of the input.
-fn take_byte(byte: u8, line: &mut [u8], answers: &mut [u8], state: State) -> State {
-    let at = state.length;
+    let output = &mut lent[..m];
+    let told = call(case.command, numbers, &given[..n], output);
     let mut next = state;
-    if byte == LINE_FEED {
-        next.waiting = answer_gathered(line, at, answers, state.waiting);
-        next.length = 0;
-        return next;
-    }
-    if at < line.len() {
-        line[at] = byte;
-        next.length = at + 1;
-    }
+    next.waiting = put::line(answers, state.waiting, told, output);
+    next.length = 0;
+    next.whole = false;
     next
 }
 
-// Takes what was read.
-fn take_bytes(read: &[u8], line: &mut [u8], answers: &mut [u8], state: State) -> State {
+// Takes what was read, up to the end of a line. A line that is too long fills its room.
+fn gather(chunk: &[u8], line: &mut [u8], state: State) -> State {
+    let count = cases::within(state.read, chunk);
+    let read = &chunk[..count];
     let mut next = state;
-    let mut i = 0;
+    let mut i = state.taken;
     while i < read.len() {
-        next = take_byte(read[i], line, answers, next);
+        next.taken = i + 1;
+        if read[i] == LINE_FEED {
+            next.whole = true;
+            return next;
+        }
+        next.length = put::byte(line, next.length, read[i]);
         i += 1;
     }
     next
@@ -116,45 +117,53 @@ fn written(answers: &[u8], waiting: usize) -> bool {
     io::write_all(STDOUT_FILENO, &answers[..count])
 }
 
-// The input has ended or cannot be read: a line without its line feed is answered too.
-fn end_input(got: isize, line: &[u8], answers: &mut [u8], state: State) {
-    if got < 0 {
-        io::write_all(STDERR_FILENO, b"probe: standard input cannot be read\n");
-        return;
+// Before the first line, where the input has not ended; or where nothing more can be done.
+fn empty(ended: bool) -> State {
+    State {
+        taken: 0,
+        read: 0,
+        length: 0,
+        whole: false,
+        waiting: 0,
+        ended,
     }
-    if state.length == 0 {
-        return;
-    }
-    let waiting = answer_gathered(line, state.length, answers, 0);
-    written(answers, waiting);
 }
 
-// Reads once, takes what came, and writes the answers.
-fn take_some(chunk: &mut [u8], line: &mut [u8], answers: &mut [u8], state: State) -> State {
-    let got = libc::read(STDIN_FILENO, chunk);
-    let count = io::count(got, chunk);
-    let mut next = take_bytes(&chunk[..count], line, answers, state);
-    if count == 0 {
-        end_input(got, line, answers, state);
-        next.more = false;
-        return next;
+// Once all that was read is taken, writes the answers and reads on. At the end of the input a line without its line feed
+// is whole.
+fn read_on(chunk: &mut [u8], answers: &[u8], state: State) -> State {
+    if state.taken < state.read {
+        return state;
     }
-    next.more = written(answers, next.waiting);
+    if !written(answers, state.waiting) {
+        return empty(true);
+    }
+    let got = libc::read(STDIN_FILENO, chunk);
+    if got < 0 {
+        io::write_all(STDERR_FILENO, b"probe: standard input cannot be read\n");
+        return empty(true);
+    }
+    let mut next = state;
+    next.taken = 0;
+    next.read = io::count(got, chunk);
     next.waiting = 0;
+    if got == 0 {
+        next.ended = true;
+        next.whole = 0 < state.length;
+    }
     next
 }
 
 // A proved loop has to end: it counts its turns down from a number that no run uses up.
 fn take_input(chunk: &mut [u8], line: &mut [u8], answers: &mut [u8]) {
-    let mut state = State {
-        length: 0,
-        waiting: 0,
-        more: true,
-    };
+    let mut state = empty(false);
     let mut turns = u64::MAX;
     while turns > 0 {
-        state = take_some(chunk, line, answers, state);
-        if !state.more {
+        state = read_on(chunk, answers, state);
+        state = gather(chunk, line, state);
+        state = answer(line, answers, state);
+        if state.ended {
+            written(answers, state.waiting);
             return;
         }
         turns -= 1;

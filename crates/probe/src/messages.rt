@@ -17,21 +17,30 @@ pub(crate) fn new_channel(room: &mut [u8]) -> Told {
 }
 
 pub(crate) fn step(numbers: [u64; 14], information: &[u8], room: &mut [u8]) -> Told {
-    let channel = Channel {
-        bytes: bytes_in(room),
-        gathered: numbers[1] as usize,
-        phase: phase_of(numbers[2]),
-        expected: (numbers[3] % 256) as u8,
-    };
+    let channel = state_in(numbers, room);
     let stepped = channel.step(information);
     let answer = stepped.answer;
     let next = stepped.channel;
     let bytes = next.bytes;
     put::word(room, 0, &bytes);
+    told_of(answer, next)
+}
+
+// The state in the first four arguments.
+fn state_in(numbers: [u64; 14], room: &[u8]) -> Channel {
+    Channel {
+        bytes: bytes_in(room),
+        gathered: numbers[1] as usize,
+        phase: phase_of(numbers[2]),
+        expected: (numbers[3] % 256) as u8,
+    }
+}
+
+fn told_of(answer: Step, channel: Channel) -> Told {
     match answer {
-        Step::Taken => state(4, 0, next),
-        Step::Message(header) => message(header, next),
-        Step::Refused(refusal) => state(4, answers::number(refusal) as u64, next),
+        Step::Taken => state(4, 0, channel),
+        Step::Message(header) => message(header, channel),
+        Step::Refused(refusal) => state(4, answers::number(refusal) as u64, channel),
     }
 }
 

@@ -3,14 +3,13 @@
 use crate::floats;
 use crate::told::Told;
 
-// For each form of an answer its word, and its fields: the word or the number of the refusal (a), a number (n), the phase
-// of a channel (p) or of a group (g), a binary64 (d), the bytes that were lent (o). A space stands for a tab, and a dash
-// for nothing.
+// For each form of an answer its word, and its fields: the word or the number of the refusal (a), a number (n), a phase
+// (p), a binary64 (d), the bytes that were lent (o). A space stands for a tab, and a dash for nothing.
 const WORDS: [u8; 115] =
     *b"word\tinformation\tblock\t\ttaken\twritten\tfresh\ttaken\twritten\tkhz\tchannel\tlog\tsummary\treport\trow\tmessage\tgroup\tbad case";
 
 const FORMS: [u8; 169] =
-    *b"a n o\ta n o\ta o\t--o n p n\ta o n p n\ta n o\ta n g n n n\ta n g n n n o\ta n o\ta n\ta n\ta n n n n n n n n n\ta n d n d\ta n o\ta n o\ta n n n n n n n n n o n p n\ta n n g n n n o\ta";
+    *b"a n o\ta n o\ta o\t--o n p n\ta o n p n\ta n o\ta n p n n n\ta n p n n n o\ta n o\ta n\ta n\ta n n n n n n n n n\ta n d n d\ta n o\ta n o\ta n n n n n n n n n o n p n\ta n n p n n n o\ta";
 
 // The line of an answer.
 pub(crate) fn line(room: &mut [u8], at: usize, told: Told, bytes: &[u8]) -> usize {
@@ -36,17 +35,26 @@ fn field(room: &mut [u8], at: usize, kind: u8, name: &[u8], value: u64, lent: &[
     match kind {
         b'a' => answer(room, at, name, value),
         b'n' => number(room, at, value),
-        b'p' => word(
-            room,
-            at,
-            text::field(b"waiting\tready\tgathering", value as usize),
-        ),
-        b'g' => word(room, at, text::field(b"idle\tgathering", value as usize)),
-        b'd' => floats::put(room, at, value),
         b'o' => bytes(room, at, lent),
+        _ => other(room, at, kind, value),
+    }
+}
+
+fn other(room: &mut [u8], at: usize, kind: u8, value: u64) -> usize {
+    match kind {
         b' ' => byte(room, at, b'\t'),
+        b'p' => phase(room, at, value as usize),
+        b'd' => floats::put(room, at, value),
         _ => at,
     }
+}
+
+fn phase(room: &mut [u8], at: usize, place: usize) -> usize {
+    word(
+        room,
+        at,
+        text::field(b"waiting\tready\tgathering\tidle", place),
+    )
 }
 
 fn answer(room: &mut [u8], at: usize, success: &[u8], refusal: u64) -> usize {
@@ -88,9 +96,13 @@ pub(crate) fn bytes(room: &mut [u8], at: usize, bytes: &[u8]) -> usize {
     let mut next = at;
     let mut i = 0;
     while i < bytes.len() {
-        next = byte(room, next, text::first_digit(bytes[i]));
-        next = byte(room, next, text::second_digit(bytes[i]));
+        next = digits(room, next, bytes[i]);
         i += 1;
     }
     next
+}
+
+fn digits(room: &mut [u8], at: usize, number: u8) -> usize {
+    let next = byte(room, at, text::first_digit(number));
+    byte(room, next, text::second_digit(number))
 }

@@ -1,13 +1,11 @@
--- docs/PROBE.md: numbers are decimal without a sign, and flags are 0 or 1. Assumes nothing.
+-- docs/PROBE.md: numbers are decimal without a sign. Assumes nothing.
 use Prim.Native.Nat.{ℕ, _+_, _-_, _*_}
 use mathlib.Core.Bool.{Bool, cond, _&&_}
 use mathlib.Core.List.{List, [], _∷_}
-use lib.ListN.{length, getD}
+use lib.ListN.{length}
 use lib.Dec.{eqb, leb}
 use Rattle.text.specs.declared.numbers.Number.{Number}
 use Rattle.text.specs.declared.numbers.Number.the-variants.{Is, Unreadable}
-use Rattle.text.specs.declared.numbers.Flag.{Flag}
-use Rattle.text.specs.declared.numbers.Flag.the-variants.{Clear, Set, Unreadable as NoFlag}
 
 abbrev pub decimal : ℕ → Bool
 decimal b = leb 48 b && leb b 57
@@ -23,8 +21,3 @@ digitsFrom most value (b ∷ digits) =
 -- one or more digits
 abbrev pub numberOf : ℕ → List ℕ → Number
 numberOf most digits = cond (eqb (length digits) 0) Unreadable (digitsFrom most 0 digits)
-
--- one digit, 0 or 1
-abbrev pub flagOf : List ℕ → Flag
-flagOf digits =
-    cond (eqb (length digits) 1) (cond (eqb (getD digits 0 0) 48) Clear (cond (eqb (getD digits 0 0) 49) Set NoFlag)) NoFlag

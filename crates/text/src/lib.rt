@@ -1,5 +1,5 @@
-// Lines of text with fields parted by tabs, as docs/PROBE.md has them: finding a field, and reading a number, a flag or
-// bytes from it. Nothing here reads or writes a file.
+// Lines of text with fields parted by tabs, as docs/PROBE.md has them: finding a field, and reading a number or bytes
+// from it. Nothing here reads or writes a file.
 mod bytes;
 mod fields;
 mod numbers;
@@ -11,7 +11,5 @@ pub use bytes::second_digit;
 pub use fields::arguments;
 pub use fields::field;
 pub use fields::same;
-pub use numbers::Flag;
 pub use numbers::Number;
-pub use numbers::read_flag;
 pub use numbers::read_number;

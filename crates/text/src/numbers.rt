@@ -1,15 +1,9 @@
-// Numbers and flags in a field.
+// Numbers in a field.
 ghost use mathlib.Core.Path.{_≡_};
-ghost use Rattle.text.specs.Numbers.{numberOf, flagOf};
+ghost use Rattle.text.specs.Numbers.{numberOf};
 
 pub enum Number {
     Is(u32),
-    Unreadable,
-}
-
-pub enum Flag {
-    Clear,
-    Set,
     Unreadable,
 }
 
@@ -37,18 +31,4 @@ pub fn read_number(digits: &[u8], most: u32) -> Number
         i += 1;
     }
     Number::Is(value as u32)
-}
-
-// `0` or `1`.
-pub fn read_flag(digits: &[u8]) -> Flag
-    ensures { λ r. ⌜ r ≡ flagOf (now (digits .entry)) ⌝ }
-{
-    if digits.len() != 1 {
-        return Flag::Unreadable;
-    }
-    match digits[0] {
-        b'0' => Flag::Clear,
-        b'1' => Flag::Set,
-        _ => Flag::Unreadable,
-    }
 }

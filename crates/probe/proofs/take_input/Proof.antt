@@ -11,11 +11,23 @@ Inv-loop chunk₀ line₀ answers₀ state₀ turns₀ chunk line answers state 
 abbrev μ-loop : tie.MeasureT-loop
 μ-loop chunk₀ line₀ answers₀ state₀ turns₀ chunk line answers state turns = turns
 
+empty-requires : tie.Need-empty-requires Inv-loop μ-loop
+empty-requires c κs = search needs
+
 loop-holds : tie.Need-loop-holds Inv-loop μ-loop
 loop-holds c = search needs
 
-take-some-requires : tie.Need-take-some-requires Inv-loop μ-loop
-take-some-requires c κs = search needs
+read-on-requires : tie.Need-read-on-requires Inv-loop μ-loop
+read-on-requires c κs = search needs
+
+gather-requires : tie.Need-gather-requires Inv-loop μ-loop
+gather-requires c κs = search needs
+
+answer-requires : tie.Need-answer-requires Inv-loop μ-loop
+answer-requires c κs = search needs
+
+written-requires : tie.Need-written-requires Inv-loop μ-loop
+written-requires c κs = search needs
 
 same-length : tie.Need-same-length Inv-loop μ-loop
 same-length c = search needs
@@ -56,8 +68,12 @@ take-input-spec =
     (tie.spec
     Inv-loop
     μ-loop
+    empty-requires
     loop-holds
-    take-some-requires
+    read-on-requires
+    gather-requires
+    answer-requires
+    written-requires
     same-length
     same-length-2
     same-length-3

@@ -33,9 +33,6 @@ field-requires c κs = search needs
 read-number-requires : tie.Need-read-number-requires Inv-loop μ-loop
 read-number-requires c κs = search needs
 
-returns-2 : tie.Need-returns-2 Inv-loop μ-loop
-returns-2 c = search needs
-
 mul-numbers : tie.Need-mul-numbers Inv-loop μ-loop
 mul-numbers c = search needs
 
@@ -50,6 +47,9 @@ loop-less c = search needs
 
 loop-again : tie.Need-loop-again Inv-loop μ-loop
 loop-again c = search needs
+
+returns-2 : tie.Need-returns-2 Inv-loop μ-loop
+returns-2 c = search needs
 
 returns-3 : tie.Need-returns-3 Inv-loop μ-loop
 returns-3 c = search needs
@@ -67,10 +67,10 @@ read-numbers-spec =
     add-field
     field-requires
     read-number-requires
-    returns-2
     mul-numbers
     array-write-numbers
     add-i
     loop-less
     loop-again
+    returns-2
     returns-3)

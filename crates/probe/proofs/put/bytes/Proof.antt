@@ -1,8 +1,7 @@
 -- `probe::put::bytes`: the room keeps its length. Assumes nothing.
-use Prim.Native.Nat.{_-_, _≤_}
-use mathlib.Core.Path.{_≡_, _∙_}
-use native.Mathlib.Omega.{arith}
 use lib.ListN.{length}
+use Prim.Native.Nat.{_-_, _≤_}
+use mathlib.Core.Path.{_≡_}
 use borrow.Author.Needs.{needs}
 use Rattle.probe.proofs.put.bytes.Statement.{statement}
 use Rattle.probe.proofs.put.bytes.Tie as tie
@@ -25,34 +24,20 @@ returns c = search needs
 loop-holds : tie.Need-loop-holds Inv-loop μ-loop
 loop-holds c = search needs
 
-shared-slice-read-first-digit : tie.Need-shared-slice-read-first-digit Inv-loop μ-loop
-shared-slice-read-first-digit c = search needs
+shared-slice-read-digits : tie.Need-shared-slice-read-digits Inv-loop μ-loop
+shared-slice-read-digits c = search needs
 
-first-digit-requires : tie.Need-first-digit-requires Inv-loop μ-loop
-first-digit-requires c κs = search needs
-
-byte-requires-2 : tie.Need-byte-requires-2 Inv-loop μ-loop
-byte-requires-2 c κs = search needs
-
-shared-slice-read-second-digit : tie.Need-shared-slice-read-second-digit Inv-loop μ-loop
-shared-slice-read-second-digit c = search needs
-
-second-digit-requires : tie.Need-second-digit-requires Inv-loop μ-loop
-second-digit-requires c κs = search needs
-
-byte-requires-3 : tie.Need-byte-requires-3 Inv-loop μ-loop
-byte-requires-3 c κs = search needs
+digits-requires : tie.Need-digits-requires Inv-loop μ-loop
+digits-requires c κs = search needs
 
 add-i : tie.Need-add-i Inv-loop μ-loop
-add-i c = omega arith
+add-i c = search needs
 
 loop-less : tie.Need-loop-less Inv-loop μ-loop
-loop-less c = omega arith
+loop-less c = search needs
 
 loop-again : tie.Need-loop-again Inv-loop μ-loop
-loop-again c =
-    let p = c .before .before .before .before .before .before .before .before in
-    (omega arith, c .before .before .byte3 .kept .0 ∙ p .byte2 .kept .0 ∙ p .before .before .before .before .before .loop .inv .1)
+loop-again c = search needs
 
 same-length-2 : tie.Need-same-length-2 Inv-loop μ-loop
 same-length-2 c = search needs
@@ -70,12 +55,8 @@ bytes-spec =
     same-length
     returns
     loop-holds
-    shared-slice-read-first-digit
-    first-digit-requires
-    byte-requires-2
-    shared-slice-read-second-digit
-    second-digit-requires
-    byte-requires-3
+    shared-slice-read-digits
+    digits-requires
     add-i
     loop-less
     loop-again
