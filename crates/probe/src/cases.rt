@@ -1,4 +1,5 @@
 // Reads a line as a case: a command of the table, and its arguments by the command's row.
+ghost use Prim.Native.Nat.{_<_};
 ghost use Rattle.io.specs.Counts.{Counts};
 use crate::floats;
 use text::Bytes;
@@ -12,7 +13,7 @@ const NAMES: [u8; 126] =
 const ROWS: [u8; 89] =
     *b"io\tio\tio\t\tcwpsi\tssffmffsio\tm\tmgwssssffmfio\tmsfssio\tm\tw\tl\tswwwwwww\tswwwwwwwo\tswwwwwwwfdfdo";
 
-// More than the arguments of a case.
+// One more than a case has arguments.
 pub const MOST: usize = 14;
 
 // The bytes of a channel.
@@ -22,7 +23,7 @@ const CHANNEL: usize = 260;
 // and lent.
 pub struct Case {
     pub command: usize,
-    pub numbers: [u64; MOST],
+    pub numbers: Numbers,
     pub given: usize,
     pub lent: usize,
 }
@@ -33,9 +34,16 @@ pub struct Argument {
     pub number: u64,
 }
 
-struct Numbers {
+// The numbers of the arguments, each at its place, and what of them eight and 32 bits hold.
+pub struct Numbers {
+    pub small: [u8; MOST],
+    pub wide: [u32; MOST],
+    pub whole: [u64; MOST],
+}
+
+struct Arguments {
     readable: bool,
-    numbers: [u64; MOST],
+    numbers: Numbers,
 }
 
 // 131,072 zeros, which a log may fill.
@@ -64,7 +72,7 @@ pub(crate) fn read(line: &[u8], given: &mut [u8], lent: &mut [u8]) -> Case {
 }
 
 // A line that is no case has no command of the table.
-fn case_of(command: Argument, arguments: Numbers, given: Argument, lent: Argument) -> Case {
+fn case_of(command: Argument, arguments: Arguments, given: Argument, lent: Argument) -> Case {
     let numbers = arguments.numbers;
     let mut case = Case {
         command: usize::MAX,
@@ -104,27 +112,38 @@ fn word(word: &[u8], list: &[u8]) -> Argument {
 }
 
 // Reads each argument by its kind. The line has to have one for each kind, and no more.
-fn read_numbers(line: &[u8], row: &[u8]) -> Numbers {
-    let mut numbers = [0u64; MOST];
+fn read_numbers(line: &[u8], row: &[u8]) -> Arguments {
+    let mut small = [0u8; MOST];
+    let mut wide = [0u32; MOST];
+    let mut whole = [0u64; MOST];
+    let mut readable = text::arguments(line) == row.len();
     let mut i = 0;
     while i < MOST {
-        if row.len() <= i {
-            return Numbers {
-                readable: text::arguments(line) == i,
-                numbers,
-            };
-        }
-        let argument = read_number(row[i], text::field(line, i + 1));
-        numbers[i] = argument.number;
-        if !argument.readable {
-            break;
-        }
+        let argument = read_at(line, row, i);
+        let number = argument.number;
+        small[i] = (number % 256) as u8;
+        wide[i] = (number % 4294967296) as u32;
+        whole[i] = number;
+        readable = argument.readable & readable;
         i += 1;
     }
-    Numbers {
-        readable: false,
-        numbers,
+    Arguments {
+        readable,
+        numbers: Numbers { small, wide, whole },
     }
+}
+
+// The argument at a place; where the row has none, 0.
+fn read_at(line: &[u8], row: &[u8], place: usize) -> Argument
+    requires { ⌜ place < 14 ⌝ }
+{
+    if row.len() <= place {
+        return Argument {
+            readable: true,
+            number: 0,
+        };
+    }
+    read_number(row[place], text::field(line, place + 1))
 }
 
 // An argument of a kind. Of bytes only the length is looked at.
@@ -196,6 +215,7 @@ fn read_bytes(line: &[u8], place: usize, room: &mut [u8]) -> Argument {
     bytes(text::field(line, place), room)
 }
 
+// The bytes of a field, at the start of a room.
 pub(crate) fn bytes(digits: &[u8], room: &mut [u8]) -> Argument {
     match text::read_bytes(digits, room) {
         Bytes::Are(count) => Argument {

@@ -53,19 +53,7 @@ pub(crate) fn put(room: &mut [u8], at: usize, bits: u64) -> usize {
     if bits == NO_NUMBER {
         return put::word(room, at, b"nnnnnnnnnnnnnnnn");
     }
-    let bytes = bytes_of(bits);
-    put::bytes(room, at, &bytes)
-}
-
-// The bytes of a number, greatest first.
-fn bytes_of(number: u64) -> [u8; 8] {
-    let mut bytes = [0u8; 8];
-    let mut left = number;
-    let mut i: usize = 8;
-    while 0 < i {
-        i -= 1;
-        bytes[i] = (left % 256) as u8;
-        left = left / 256;
-    }
-    bytes
+    let mut digits = [0u8; 16];
+    let count = io::hex(bits, 16, &mut digits);
+    put::word(room, at, &digits[..count])
 }

@@ -1,4 +1,5 @@
 // The groups' commands.
+use crate::cases::Numbers;
 use crate::messages;
 use crate::told;
 use crate::told::Told;
@@ -7,14 +8,15 @@ use group::Phase;
 use group::Step;
 use group::writer::Series;
 
-pub(crate) fn new_group(numbers: [u64; 14]) -> Told {
-    let made = Group::new((numbers[0] % 65536) as u16);
+pub(crate) fn new_group(numbers: Numbers) -> Told {
+    let wide = numbers.wide;
+    let made = Group::new((wide[0] % 65536) as u16);
     let answer = made.answer;
     let group = made.group;
     state(6, told::refusal(answer), group)
 }
 
-pub(crate) fn join(numbers: [u64; 14], data: &[u8], buffer: &mut [u8]) -> Told {
+pub(crate) fn join(numbers: Numbers, data: &[u8], buffer: &mut [u8]) -> Told {
     let group = state_in(numbers);
     let message = messages::fields_at(numbers, 5);
     let stepped = group.join(message, data, buffer);
@@ -32,17 +34,19 @@ fn told_of(answer: Step, group: Group) -> Told {
 }
 
 // The state in the first five arguments.
-fn state_in(numbers: [u64; 14]) -> Group {
+fn state_in(numbers: Numbers) -> Group {
+    let small = numbers.small;
+    let wide = numbers.wide;
     Group {
-        number: (numbers[0] % 65536) as u16,
-        phase: phase_of(numbers[1]),
-        held: numbers[2] as usize,
-        messages: (numbers[3] % 256) as u8,
-        ci: (numbers[4] % 256) as u8,
+        number: (wide[0] % 65536) as u16,
+        phase: phase_of(small[1]),
+        held: wide[2] as usize,
+        messages: small[3],
+        ci: small[4],
     }
 }
 
-fn phase_of(number: u64) -> Phase {
+fn phase_of(number: u8) -> Phase {
     if number == 0 {
         return Phase::Idle;
     }
@@ -112,15 +116,21 @@ fn whole(length: usize, group: Group) -> Told {
     }
 }
 
-pub(crate) fn write_group(numbers: [u64; 14], data: &[u8], output: &mut [u8]) -> Told {
-    let series = Series {
-        number: (numbers[0] % 65536) as u16,
-        ri: (numbers[1] % 256) as u8,
-        di: numbers[2] == 1,
-        sc: (numbers[3] % 256) as u8,
-        ci: (numbers[4] % 256) as u8,
-    };
-    let wrote = group::writer::write_group(series, data, output);
+// What a group is written with, in the first five arguments.
+fn series_in(numbers: Numbers) -> Series {
+    let small = numbers.small;
+    let wide = numbers.wide;
+    Series {
+        number: (wide[0] % 65536) as u16,
+        ri: small[1],
+        di: small[2] == 1,
+        sc: small[3],
+        ci: small[4],
+    }
+}
+
+pub(crate) fn write_group(numbers: Numbers, data: &[u8], output: &mut [u8]) -> Told {
+    let wrote = group::writer::write_group(series_in(numbers), data, output);
     let answer = wrote.answer;
     told::answered(8, answer, wrote.blocks as u64)
 }

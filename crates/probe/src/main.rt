@@ -10,6 +10,7 @@ mod surveys;
 mod told;
 
 ghost use Rattle.io.specs.Counts.{Counts};
+use cases::Numbers;
 use libc::STDERR_FILENO;
 use libc::STDIN_FILENO;
 use libc::STDOUT_FILENO;
@@ -30,7 +31,7 @@ struct State {
 }
 
 // Calls the function of a command, by the place of the command in the table.
-fn call(command: usize, numbers: [u64; 14], given: &[u8], lent: &mut [u8]) -> Told {
+fn call(command: usize, numbers: Numbers, given: &[u8], lent: &mut [u8]) -> Told {
     match command {
         0 => blocks::correct(given, lent),
         1 => blocks::read_block(given, lent),
@@ -47,7 +48,7 @@ fn call(command: usize, numbers: [u64; 14], given: &[u8], lent: &mut [u8]) -> To
 }
 
 // The commands that are lent nothing.
-fn call_plain(command: usize, numbers: [u64; 14], given: &[u8]) -> Told {
+fn call_plain(command: usize, numbers: Numbers, given: &[u8]) -> Told {
     match command {
         6 => groups::new_group(numbers),
         9 => surveys::khz(numbers),
@@ -117,7 +118,7 @@ fn written(answers: &[u8], waiting: usize) -> bool {
     io::write_all(STDOUT_FILENO, &answers[..count])
 }
 
-// Before the first line, where the input has not ended; or where nothing more can be done.
+// The state before the first line, or where nothing more can be done.
 fn empty(ended: bool) -> State {
     State {
         taken: 0,
@@ -175,8 +176,8 @@ fn line_room() -> [u8; 262144] {
     [0; 262144]
 }
 
-// More than the answers take to what is read at once: a line of it has at least 12 bytes where its answer is longest,
-// 533 bytes, and the first one may end a case that fills its line, whose answer is hardly longer than the case.
+// More than the answers take to the 4,096 bytes that are read at once: less than 45 bytes for each of them, as for
+// `new-channel`, and the answer to a case that began before, which is hardly longer than the case.
 fn answers_room() -> [u8; 532480] {
     [0; 532480]
 }

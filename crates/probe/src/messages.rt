@@ -1,5 +1,6 @@
 // The long message channel's commands. The bytes of a channel stand in the room that is lent.
 ghost use Prim.Native.Nat.{_<_};
+use crate::cases::Numbers;
 use crate::put;
 use crate::told;
 use crate::told::Told;
@@ -16,7 +17,7 @@ pub(crate) fn new_channel(room: &mut [u8]) -> Told {
     state(3, 0, channel)
 }
 
-pub(crate) fn step(numbers: [u64; 14], information: &[u8], room: &mut [u8]) -> Told {
+pub(crate) fn step(numbers: Numbers, information: &[u8], room: &mut [u8]) -> Told {
     let channel = state_in(numbers, room);
     let stepped = channel.step(information);
     let answer = stepped.answer;
@@ -27,12 +28,14 @@ pub(crate) fn step(numbers: [u64; 14], information: &[u8], room: &mut [u8]) -> T
 }
 
 // The state in the first four arguments.
-fn state_in(numbers: [u64; 14], room: &[u8]) -> Channel {
+fn state_in(numbers: Numbers, room: &[u8]) -> Channel {
+    let small = numbers.small;
+    let wide = numbers.wide;
     Channel {
         bytes: bytes_in(room),
-        gathered: numbers[1] as usize,
-        phase: phase_of(numbers[2]),
-        expected: (numbers[3] % 256) as u8,
+        gathered: wide[1] as usize,
+        phase: phase_of(small[2]),
+        expected: small[3],
     }
 }
 
@@ -57,7 +60,7 @@ fn bytes_in(room: &[u8]) -> [u8; 260] {
     bytes
 }
 
-fn phase_of(number: u64) -> Phase {
+fn phase_of(number: u8) -> Phase {
     match number {
         0 => Phase::Waiting,
         1 => Phase::Ready,
@@ -124,24 +127,25 @@ fn message(header: Header, channel: Channel) -> Told {
 }
 
 // The fields of a message: RI, CI, First, Last, number and COM, from a place on.
-pub(crate) fn fields_at(numbers: [u64; 14], first: usize) -> Fields
+pub(crate) fn fields_at(numbers: Numbers, first: usize) -> Fields
     requires { ⌜ first < 9 ⌝ }
 {
+    let small = numbers.small;
+    let wide = numbers.wide;
     Fields {
-        ri: (numbers[first] % 256) as u8,
-        ci: (numbers[first + 1] % 256) as u8,
-        first: numbers[first + 2] == 1,
-        last: numbers[first + 3] == 1,
-        number: (numbers[first + 4] % 65536) as u16,
-        command: numbers[first + 5] == 1,
+        ri: small[first],
+        ci: small[first + 1],
+        first: small[first + 2] == 1,
+        last: small[first + 3] == 1,
+        number: (wide[first + 4] % 65536) as u16,
+        command: small[first + 5] == 1,
     }
 }
 
-pub(crate) fn write_message(numbers: [u64; 14], data: &[u8], output: &mut [u8]) -> Told {
+pub(crate) fn write_message(numbers: Numbers, data: &[u8], output: &mut [u8]) -> Told {
     let fields = fields_at(numbers, 0);
-    let di = numbers[6] == 1;
-    let sc = (numbers[7] % 256) as u8;
-    let wrote = channel::writer::write_message(fields, di, sc, data, output);
+    let small = numbers.small;
+    let wrote = channel::writer::write_message(fields, small[6] == 1, small[7], data, output);
     let answer = wrote.answer;
     told::answered(5, answer, wrote.blocks as u64)
 }

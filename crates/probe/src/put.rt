@@ -20,6 +20,7 @@ pub(crate) fn line(room: &mut [u8], at: usize, told: Told, bytes: &[u8]) -> usiz
     byte(room, end, b'\n')
 }
 
+// Fields and what parts them take turns in a row, so that the number of a field stands at half its place.
 fn fields(room: &mut [u8], at: usize, row: &[u8], word: &[u8], told: Told, bytes: &[u8]) -> usize {
     let numbers = told.numbers;
     let mut next = at;
@@ -40,6 +41,7 @@ fn field(room: &mut [u8], at: usize, kind: u8, name: &[u8], value: u64, lent: &[
     }
 }
 
+// What parts fields, and the kinds that few lines have.
 fn other(room: &mut [u8], at: usize, kind: u8, value: u64) -> usize {
     match kind {
         b' ' => byte(room, at, b'\t'),

@@ -1,4 +1,5 @@
 // The survey's commands.
+use crate::cases::Numbers;
 use crate::floats;
 use crate::told;
 use crate::told::Told;
@@ -6,8 +7,9 @@ use band::Kilohertz;
 use log::Counts;
 use summary::Summary;
 
-pub(crate) fn khz(numbers: [u64; 14]) -> Told {
-    let numbered = band::numbered((numbers[0] % 65536) as u32);
+pub(crate) fn khz(numbers: Numbers) -> Told {
+    let wide = numbers.wide;
+    let numbered = band::numbered(wide[0]);
     let channel = numbered.channel;
     let told = band::to_kilohertz(channel);
     let answer = told.answer;
@@ -15,8 +17,9 @@ pub(crate) fn khz(numbers: [u64; 14]) -> Told {
     told::answered(9, answer, kilohertz.0 as u64)
 }
 
-pub(crate) fn channel(numbers: [u64; 14]) -> Told {
-    let told = band::to_channel(Kilohertz((numbers[0] % 4294967296) as u32));
+pub(crate) fn channel(numbers: Numbers) -> Told {
+    let wide = numbers.wide;
+    let told = band::to_channel(Kilohertz(wide[0]));
     let answer = told.answer;
     let channel = told.channel;
     told::answered(10, answer, channel.0 as u64)
@@ -26,11 +29,15 @@ pub(crate) fn read_log(log: &[u8]) -> Told {
     let read = log::read(log);
     let answer = read.answer;
     let counts = read.counts;
+    counted(told::refusal(answer), read.line, counts)
+}
+
+fn counted(refusal: u64, line: u32, counts: Counts) -> Told {
     Told {
         form: 11,
         numbers: [
-            told::refusal(answer),
-            read.line as u64,
+            refusal,
+            line as u64,
             counts.channel as u64,
             counts.slots as u64,
             counts.read as u64,
@@ -48,20 +55,22 @@ pub(crate) fn read_log(log: &[u8]) -> Told {
 }
 
 // The counts in the first eight arguments.
-fn counts_in(numbers: [u64; 14]) -> Counts {
+fn counts_in(numbers: Numbers) -> Counts {
+    let small = numbers.small;
+    let wide = numbers.wide;
     Counts {
-        channel: (numbers[0] % 256) as u8,
-        slots: (numbers[1] % 4294967296) as u32,
-        read: (numbers[2] % 4294967296) as u32,
-        clean: (numbers[3] % 4294967296) as u32,
-        bits: (numbers[4] % 4294967296) as u32,
-        noword: (numbers[5] % 4294967296) as u32,
-        check: (numbers[6] % 4294967296) as u32,
-        missing: (numbers[7] % 4294967296) as u32,
+        channel: small[0],
+        slots: wide[1],
+        read: wide[2],
+        clean: wide[3],
+        bits: wide[4],
+        noword: wide[5],
+        check: wide[6],
+        missing: wide[7],
     }
 }
 
-pub(crate) fn summarise(numbers: [u64; 14]) -> Told {
+pub(crate) fn summarise(numbers: Numbers) -> Told {
     let summarised = summary::summarise(counts_in(numbers));
     let answer = summarised.answer;
     let record = summarised.summary;
@@ -90,20 +99,26 @@ pub(crate) fn summarise(numbers: [u64; 14]) -> Told {
     }
 }
 
-pub(crate) fn report(numbers: [u64; 14], output: &mut [u8]) -> Told {
+pub(crate) fn report(numbers: Numbers, output: &mut [u8]) -> Told {
     let written = summary::report(counts_in(numbers), output);
     let answer = written.answer;
     told::answered(13, answer, written.length as u64)
 }
 
-pub(crate) fn export(numbers: [u64; 14], output: &mut [u8]) -> Told {
-    let record = Summary {
-        mean_exists: numbers[8] == 1,
-        mean: floats::of_bits(numbers[9]),
-        missing_exists: numbers[10] == 1,
-        missing: floats::of_bits(numbers[11]),
-    };
-    let written = summary::export(counts_in(numbers), record, output);
+// The summary in the arguments behind the counts.
+fn summary_in(numbers: Numbers) -> Summary {
+    let small = numbers.small;
+    let whole = numbers.whole;
+    Summary {
+        mean_exists: small[8] == 1,
+        mean: floats::of_bits(whole[9]),
+        missing_exists: small[10] == 1,
+        missing: floats::of_bits(whole[11]),
+    }
+}
+
+pub(crate) fn export(numbers: Numbers, output: &mut [u8]) -> Told {
+    let written = summary::export(counts_in(numbers), summary_in(numbers), output);
     let answer = written.answer;
     told::answered(14, answer, written.length as u64)
 }

@@ -6,7 +6,7 @@ pub struct Told {
     pub numbers: [u64; 14],
 }
 
-// The forms beyond those of the commands, which have the commands' places.
+// A form has the place of its command; these stand behind them.
 pub const MESSAGE: usize = 15;
 
 pub const GROUP: usize = 16;
@@ -21,7 +21,7 @@ pub(crate) fn bad() -> Told {
     }
 }
 
-// 0 for a success.
+// The number of a refusal, and 0 for a success.
 pub(crate) fn refusal(answer: Answer) -> u64 {
     match answer {
         Answer::Accepted => 0,
