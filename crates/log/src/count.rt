@@ -24,8 +24,8 @@ pub(crate) fn is_sound(counts: Counts) -> bool
     if GREATEST_SLOT < counts.slots {
         return false;
     }
-    let sum = wide(counts.read) + wide(counts.noword) + wide(counts.check) + wide(counts.missing);
-    if wide(counts.slots) != sum {
+    let unread = counts.noword as u64 + counts.check as u64 + counts.missing as u64;
+    if counts.slots as u64 != counts.read as u64 + unread {
         return false;
     }
     if counts.read < counts.clean {
@@ -36,12 +36,6 @@ pub(crate) fn is_sound(counts: Counts) -> bool
         return false;
     }
     counts.bits <= 8 * dirty
-}
-
-fn wide(x: u32) -> u64
-    ensures { λ r. ⌜ r ≡ x ⌝ }
-{
-    x as u64
 }
 
 // The counts of a log with its first line only.

@@ -8,31 +8,33 @@ use Rattle.log.proofs.count.is_sound.Tie as tie
 
 returns : tie.Need-returns
 unfolding isSound
-returns c = let x = c .before .before .args .counts in rw (lt-leb (x .slots) 999999 (omega arith))
+returns c =
+    let x = c .before .before .args .counts in
+    rw (lt-leb (x .slots) 999999 (omega arith))
 
-wide-requires : tie.Need-wide-requires
-wide-requires c κs = search needs
+cast-unread : tie.Need-cast-unread
+cast-unread c = search needs
 
-wide-requires-2 : tie.Need-wide-requires-2
-wide-requires-2 c κs = search needs
+cast-unread-2 : tie.Need-cast-unread-2
+cast-unread-2 c = search needs
 
-add-sum : tie.Need-add-sum
-add-sum c = search needs
+add-unread : tie.Need-add-unread
+add-unread c = search needs
 
-wide-requires-3 : tie.Need-wide-requires-3
-wide-requires-3 c κs = search needs
+cast-unread-3 : tie.Need-cast-unread-3
+cast-unread-3 c = search needs
 
-add-sum-2 : tie.Need-add-sum-2
-add-sum-2 c = search needs
+add-unread-2 : tie.Need-add-unread-2
+add-unread-2 c = search needs
 
-wide-requires-4 : tie.Need-wide-requires-4
-wide-requires-4 c κs = search needs
+cast-if2 : tie.Need-cast-if2
+cast-if2 c = search needs
 
-add-sum-3 : tie.Need-add-sum-3
-add-sum-3 c = search needs
+cast-if2-2 : tie.Need-cast-if2-2
+cast-if2-2 c = search needs
 
-wide-requires-5 : tie.Need-wide-requires-5
-wide-requires-5 c κs = search needs
+add-if2 : tie.Need-add-if2
+add-if2 c = search needs
 
 returns-2 : tie.Need-returns-2
 unfolding isSound
@@ -66,14 +68,14 @@ is-sound-spec =
     tie.close
     (tie.spec
     returns
-    wide-requires
-    wide-requires-2
-    add-sum
-    wide-requires-3
-    add-sum-2
-    wide-requires-4
-    add-sum-3
-    wide-requires-5
+    cast-unread
+    cast-unread-2
+    add-unread
+    cast-unread-3
+    add-unread-2
+    cast-if2
+    cast-if2-2
+    add-if2
     returns-2
     returns-3
     returns-4
