@@ -9,13 +9,10 @@ use borrow.Author.Tests.{eqb-true, eqb-false}
 use lib.Dec.{eqb}
 use lib.ListN.{length, getD, take, drop}
 use lib.Seq.{ext-getD, getD-take, getD-drop, length-take-le}
+use Rattle.gf2.proofs.Bits.{bit-lt}
 use Rattle.gf2.proofs.Lists.{Filled, length-rowFrom, getD-rowFrom}
-use Rattle.code.specs.Code.{one}
+use Rattle.gf2.specs.Poly.{bit}
 use Rattle.block.specs.Bytes.{AreBytes, bitOf, rowOf, packed}
-
-pub one-le : (b : Bool) → one b ≤ 1
-one-le true = omega arith
-one-le false = omega arith
 
 pub length-rowOf : (bytes : List ℕ) → length (rowOf bytes) ≡ 8 * length bytes
 unfolding rowOf
@@ -40,16 +37,16 @@ bitOf-packed (false ∷ bits) zero = ap (λ (n : ℕ). eqb n 1) even
   where
     even : (0 + 2 * packed bits) / 2 ^ 0 % 2 ≡ 0
     even = omega arith
-bitOf-packed (b ∷ bits) (suc k) = ap (λ (n : ℕ). eqb (n % 2) 1) (sym (halved (one b + 2 * packed bits) k) ∙ ap (λ (n : ℕ). n / 2 ^ k) half) ∙ bitOf-packed bits k
+bitOf-packed (b ∷ bits) (suc k) = ap (λ (n : ℕ). eqb (n % 2) 1) (sym (halved (bit b + 2 * packed bits) k) ∙ ap (λ (n : ℕ). n / 2 ^ k) half) ∙ bitOf-packed bits k
   where
-    half : (one b + 2 * packed bits) / 2 ≡ packed bits
-    half = omega (arith, one-le b)
+    half : (bit b + 2 * packed bits) / 2 ≡ packed bits
+    half = omega (arith, bit-lt b)
 
 pub packed-lt : (n : ℕ) (bits : List Bool) → length bits ≤ n → packed bits < 2 ^ n
 packed-lt zero [] h = omega arith
 packed-lt zero (b ∷ bits) h = absurd (omega arith)
 packed-lt (suc n) [] h = omega (arith, pow-succ' 2 n, packed-lt n [] (omega arith))
-packed-lt (suc n) (b ∷ bits) h = omega (arith, pow-succ' 2 n, packed-lt n bits (omega arith), one-le b)
+packed-lt (suc n) (b ∷ bits) h = omega (arith, pow-succ' 2 n, packed-lt n bits (omega arith), bit-lt b)
 
 -- bytes filled from a row have its leading places as their row
 pub bytes-filled : (row : List Bool) (bytes : List ℕ) (k : ℕ) → 8 * length bytes ≤ length row → length bytes ≤ k

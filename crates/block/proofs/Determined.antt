@@ -11,8 +11,7 @@ use Rattle.answers.proofs.Determined.{paper-once}
 use Rattle.code.specs.Code.{distance}
 use Rattle.code.proofs.Majority.{only-word}
 use Rattle.block.specs.Bytes.{AreBytes, rowOf}
-use Rattle.block.specs.Nearest.{Near}
-use Rattle.block.specs.Corrector.{WrongLength, NoCodeWord, Corrects}
+use Rattle.block.specs.Corrector.{Near, WrongLength, NoCodeWord, Corrects}
 use Rattle.block.specs.Blocks.{CheckRight, Reads, Writes}
 use Rattle.block.proofs.Bytes.{row-once, length-rowOf}
 

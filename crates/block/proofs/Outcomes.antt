@@ -1,6 +1,6 @@
 -- What was seen decides the outcome. Assumes nothing.
 use mathlib.Core.Path.{_≡_, refl, sym, ap, _∙_, subst}
-use mathlib.Core.Bool.{Bool, true, false, false≢true, _&&_, not}
+use mathlib.Core.Bool.{Bool, true, false, false≢true, _&&_, not, and-eq-true-iff}
 use mathlib.Core.Logic.{inl, inr}
 use lib.Dec.{eqb}
 use borrow.Author.Tests.{eqb-true, eq-eqb, not-true}
@@ -17,8 +17,8 @@ use Rattle.code.specs.Vote.{voted}
 use Rattle.code.proofs.Majority.{length-voted, code-length}
 use Rattle.code.proofs.Accepted.{code-tested, accepts}
 use Rattle.block.specs.Bytes.{rowOf}
-use Rattle.block.specs.Nearest.{Near, Searched, Puts}
-use Rattle.block.specs.Corrector.{Sized, WrongLength, NoCodeWord, Corrects}
+use Rattle.block.specs.Nearest.{Searched, Puts}
+use Rattle.block.specs.Corrector.{Near, Sized, WrongLength, NoCodeWord, Corrects}
 use Rattle.block.specs.Blocks.{CheckRight, Reads}
 
 -- the search: the voted row is tested for a code word and for its distance
@@ -50,14 +50,10 @@ whole-row bytes l =
     ap (λ xs. rowOf bytes ++ xs) (drop-of-length-le (replicate 272 false) {i = 8 * length bytes} (omega (arith, length-replicate 272 false))) ∙ append-nil (rowOf bytes)
 
 -- the lengths, tested
-both : (s t : Bool) → (s && t) ≡ true → (s ≡ true) × (t ≡ true)
-both true t e = (refl, e)
-both false t e = absurd (false≢true e)
-
 pub sized-so : (bytes room : ℕ) (given before : List ℕ) (t : Bool) → t ≡ (eqb (length given) bytes && eqb (length before) room) → t ≡ true
     → Sized bytes room given before
 sized-so bytes room given before t e h =
-    let b = both (eqb (length given) bytes) (eqb (length before) room) (sym e ∙ h) in
+    let b = and-eq-true-iff (eqb (length given) bytes) (eqb (length before) room) .0 (sym e ∙ h) in
     record { input = eqb-true _ _ (b .0); output = eqb-true _ _ (b .1) }
 
 pub not-sized : (bytes room : ℕ) (given before : List ℕ) (t : Bool) → t ≡ (eqb (length given) bytes && eqb (length before) room) → t ≡ false
@@ -71,7 +67,7 @@ wrong-length room received before answer count h a n = record { wrong = h; answe
 
 -- a word that was found, and whose check bits are wrong
 pub lacking : (near t r : Bool) → r ≡ (near && not t) → r ≡ true → (near ≡ true) × (t ≡ false)
-lacking near t r e h = let b = both near (not t) (sym e ∙ h) in (b .0, not-true t (b .1))
+lacking near t r e h = let b = and-eq-true-iff near (not t) .0 (sym e ∙ h) in (b .0, not-true t (b .1))
 
 pub not-lacking : (near t r : Bool) → r ≡ (near && not t) → r ≡ false → near ≡ true → t ≡ true
 not-lacking near true r e h n = refl

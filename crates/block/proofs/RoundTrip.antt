@@ -9,10 +9,10 @@ use lib.ListN.{length, take, drop, take-append-drop}
 use lib.Seq.{take-take, take-at, drop-at}
 use Rattle.answers.specs.declared.Answer.{Answer}
 use Rattle.answers.specs.Numbers.{accepted, paper}
-use Rattle.gf2.specs.Poly.{Multiple, checkOf, systematic}
+use Rattle.gf2.specs.Poly.{bit, Multiple, checkOf, systematic}
 use Rattle.gf2.proofs.Bits.{⊕-self}
 use Rattle.gf2.proofs.Remainders.{systematic-multiple}
-use Rattle.code.specs.Code.{generator, CodeWord, one, distance}
+use Rattle.code.specs.Code.{generator, CodeWord, distance}
 use Rattle.code.proofs.Computed.{generator-length}
 use Rattle.code.proofs.Majority.{code-length, only-word}
 use Rattle.block.specs.Bytes.{AreBytes, rowOf}
@@ -80,7 +80,7 @@ changed-reads information block received before after answer count li written lr
 
 distance-self : (row : List Bool) → distance row row ≡ 0
 distance-self [] = refl
-distance-self (b ∷ row) = omega (arith, distance-self row, ap one (⊕-self b))
+distance-self (b ∷ row) = omega (arith, distance-self row, ap bit (⊕-self b))
 
 -- WHAT IS WRITTEN READS BACK, with 0 corrected
 pub written-reads : (information room block before after : List ℕ) (made answer : Answer) (count : ℕ) → Block information room block made → length before ≡ 22

@@ -6,10 +6,10 @@ use Prim.Native.Nat.{ℕ, zero, suc, _+_, _*_, _-_, _≤_, _<_}
 use native.Mathlib.Numerals.{add-one}
 use native.Mathlib.Omega.{arith}
 use lib.ListN.{length, getD, take, drop, drop-of-length-le, length-take}
-use Rattle.gf2.specs.Poly.{_⊕_}
+use Rattle.gf2.specs.Poly.{bit, _⊕_}
 use Rattle.gf2.proofs.Bits.{⊕-assoc, ⊕-false}
 use Rattle.gf2.proofs.Lists.{drop-one}
-use Rattle.code.specs.Code.{one, distance}
+use Rattle.code.specs.Code.{distance}
 use Rattle.code.specs.Vote.{parityOver, sumOver, checkPositions}
 use Rattle.code.proofs.Sums.{Below}
 use Rattle.code.proofs.Computed.{positions-below, positions-length}
@@ -45,18 +45,18 @@ module _ (f : ℕ → ℕ) (ss : List ℕ) (l n whole : ℕ) (inv : n + sumOver 
 
 -- the distance of two rows
 module _ (row word : List Bool) (p n whole : ℕ) (inv : n + distance (drop p row) (drop p word) ≡ whole) where
-  pub distance-turn : (x : ℕ) → p < length row → p < length word → x ≡ one (getD row p false ⊕ getD word p false)
+  pub distance-turn : (x : ℕ) → p < length row → p < length word → x ≡ bit (getD row p false ⊕ getD word p false)
       → n + x + distance (drop (p + 1) row) (drop (p + 1) word) ≡ whole
   distance-turn x hr hw e = omega (arith, split)
     where
-      split : distance (drop p row) (drop p word) ≡ one (getD row p false ⊕ getD word p false) + distance (drop (p + 1) row) (drop (p + 1) word)
+      split : distance (drop p row) (drop p word) ≡ bit (getD row p false ⊕ getD word p false) + distance (drop (p + 1) row) (drop (p + 1) word)
       split = λ i. distance (drop-one row p false hr i) (drop-one word p false hw i)
 
   pub distance-end : length row ≤ p → n ≡ whole
   distance-end h = omega (arith, ap (λ xs. distance xs (drop p word)) (drop-of-length-le row {i = p} h))
 
 -- the byte of eight places, from the last of them back
-pub byte-turn : (row : List Bool) (at j x v : ℕ) → 0 < j → j ≤ 8 → at + j ≤ length row → x ≡ one (getD row (at + (j - 1)) false)
+pub byte-turn : (row : List Bool) (at j x v : ℕ) → 0 < j → j ≤ 8 → at + j ≤ length row → x ≡ bit (getD row (at + (j - 1)) false)
     → v ≡ packed (take (8 - j) (drop (at + j) row)) → x + 2 * v ≡ packed (take (8 - (j - 1)) (drop (at + (j - 1)) row))
 byte-turn row at j x v h₀ h₈ hr ex ev = omega (arith, here)
   where
@@ -69,7 +69,7 @@ byte-turn row at j x v h₀ h₈ hr ex ev = omega (arith, here)
     below : at + (j - 1) < length row
     below = omega arith
 
-    here : packed (take (8 - (j - 1)) (drop (at + (j - 1)) row)) ≡ one (getD row (at + (j - 1)) false) + 2 * packed (take (8 - j) (drop (at + j) row))
+    here : packed (take (8 - (j - 1)) (drop (at + (j - 1)) row)) ≡ bit (getD row (at + (j - 1)) false) + 2 * packed (take (8 - j) (drop (at + j) row))
     here = rw (more, add-one (8 - j), drop-one row (at + (j - 1)) false below, next)
 
 pub byte-small : (j : ℕ) (bits : List Bool) → 0 < j → packed (take (8 - j) bits) < 128

@@ -10,12 +10,11 @@ use Rattle.answers.specs.Numbers.{accepted, refused, paper}
 use Rattle.gf2.specs.Poly.{lower, checkOf, systematic}
 use Rattle.code.specs.Code.{generator}
 use Rattle.block.specs.Bytes.{rowOf}
-use Rattle.block.specs.Nearest.{Near}
-use Rattle.block.specs.Corrector.{Sized, WrongLength, NoCodeWord}
+use Rattle.block.specs.Corrector.{Near, Sized, WrongLength, NoCodeWord}
 
--- x^14 + x^11 + x^2 + 1, below x^14
+-- x^14 + x^11 + x^2 + 1
 unfoldable pub checkDivisor : List Bool
-checkDivisor = lower 14 (11 ∷ 2 ∷ 0 ∷ [])
+checkDivisor = lower 14 (14 ∷ 11 ∷ 2 ∷ 0 ∷ [])
 
 -- The 14 check bits are the remainder of the information polynomial times x^14, highest power sent first.
 abbrev pub CheckRight : List Bool → Type 0

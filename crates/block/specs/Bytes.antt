@@ -4,8 +4,7 @@ use mathlib.Core.List.{List, [], _∷_}
 use Prim.Native.Nat.{ℕ, _+_, _*_, _/_, _%_, _^_, _<_}
 use lib.Dec.{eqb}
 use lib.ListN.{length, getD}
-use Rattle.gf2.specs.Poly.{rowFrom}
-use Rattle.code.specs.Code.{one}
+use Rattle.gf2.specs.Poly.{bit, rowFrom}
 
 -- bytes are numbers below 256
 abbrev pub AreBytes : List ℕ → Type 0
@@ -22,4 +21,4 @@ rowOf bytes = rowFrom (λ p. bitOf (getD bytes (p / 8) 0) (p % 8)) 0 (8 * length
 -- the number with these bits, lowest weight first
 abbrev pub packed : List Bool → ℕ
 packed [] = 0
-packed (b ∷ bits) = one b + 2 * packed bits
+packed (b ∷ bits) = bit b + 2 * packed bits

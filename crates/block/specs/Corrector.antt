@@ -1,15 +1,25 @@
--- Document 01, "The block" and demand 3: what the corrector answers, over all code words. Each record is one outcome:
--- when it is given, the answer as the paper has it, the count, and every byte of the output. Assumes nothing.
+-- Document 01, "The block": what the corrector answers, over all code words. Each record is one outcome: when it is given, the answer as the
+-- paper has it, the count, and every byte of the output. Assumes nothing.
 use mathlib.Core.Path.{_≡_}
 use mathlib.Core.Bool.{Bool}
 use mathlib.Core.List.{List}
 use mathlib.Core.Logic.{_⊎_}
-use Prim.Native.Nat.{ℕ}
+use Prim.Native.Nat.{ℕ, _≤_}
 use lib.ListN.{length}
 use Rattle.answers.specs.declared.Answer.{Answer}
 use Rattle.answers.specs.Numbers.{accepted, refused, paper}
+use Rattle.code.specs.Code.{CodeWord, distance}
 use Rattle.block.specs.Bytes.{rowOf}
-use Rattle.block.specs.Nearest.{Near, NoneNear}
+
+-- a code word differs from a row in at most eight places, and the count says in how many
+pub record Near (row word : List Bool) (count : ℕ) : Type 0 where
+  pub code : CodeWord word
+  pub near : distance row word ≤ 8
+  pub counts : count ≡ distance row word
+
+-- no code word differs in at most eight places
+abbrev pub NoneNear : List Bool → Type 0
+NoneNear row = (word : List Bool) → CodeWord word → distance row word ≤ 8 → ⊥
 
 -- It wants 34 bytes in and 34 out, the reader 34 and 22, the block writer 22 and 34, else 1.
 pub record Sized (bytes room : ℕ) (given before : List ℕ) : Type 0 where

@@ -1,4 +1,4 @@
 pub mod Bytes
-pub mod Nearest
 pub mod Corrector
 pub mod Blocks
+pub mod Nearest

@@ -62,7 +62,7 @@ fn odd_sums(sums: &[bool; 273], positions: &[usize; 17], p: usize) -> usize
     let mut odd: usize = 0;
     let mut l: usize = 0;
     while l < 17 {
-        odd += rows::number(sums[(p + 273 - positions[l]) % 273]) as usize;
+        odd += gf2::number(sums[(p + 273 - positions[l]) % 273]) as usize;
         l += 1;
     }
     odd
@@ -100,7 +100,7 @@ fn distance_of(row: &[bool; 272], word: &[bool; 272]) -> usize
     let mut count: usize = 0;
     let mut place: usize = 0;
     while place < 272 {
-        count += rows::number(gf2::sum(row[place], word[place])) as usize;
+        count += gf2::number(gf2::sum(row[place], word[place])) as usize;
         place += 1;
     }
     count

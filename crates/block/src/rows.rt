@@ -3,15 +3,7 @@ ghost use mathlib.Core.Path.{_≡_};
 ghost use mathlib.Core.List.{_++_};
 ghost use Prim.Native.Nat.{_+_, _*_, _/_, _%_, _<_, _≤_};
 ghost use lib.ListN.{length, getD, take, drop};
-ghost use Rattle.code.specs.Code.{one};
 ghost use Rattle.block.specs.Bytes.{bitOf, rowOf, packed};
-
-// A bit as a number.
-pub(crate) fn number(bit: bool) -> u8
-    ensures { λ r. ⌜ r ≡ one bit ⌝ }
-{
-    if bit { 1 } else { 0 }
-}
 
 fn bit_at(bytes: &[u8], p: usize) -> bool
     requires { ⌜ p < 8 * length (now bytes) ⌝ }
@@ -42,7 +34,7 @@ fn byte_at(row: &[bool], at: usize) -> u8
     let mut j: usize = 8;
     while 0 < j {
         j -= 1;
-        byte = number(row[at + j]) + 2 * byte;
+        byte = gf2::number(row[at + j]) + 2 * byte;
     }
     byte
 }

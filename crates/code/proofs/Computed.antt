@@ -8,6 +8,8 @@ use native.Mathlib.Nat.{not-suc-le-zero}
 use native.Mathlib.Omega.{arith}
 use native.Mathlib.Decide.{ℕ-discrete}
 use lib.Dec.{T, eqb, eqb→eq, ltb, ltb→lt}
+use lib.Ieee.Bits.{is-false}
+use lib.Ieee.Fits.{and-l, and-r}
 use lib.ListN.{length}
 use Rattle.code.specs.Code.{generator}
 use Rattle.code.specs.Vote.{residues, bitAt, parityOver, sumOver, checkPositions}
@@ -18,16 +20,12 @@ abbrev allTo : ℕ → (ℕ → Bool) → Bool
 allTo zero f = true
 allTo (suc n) f = f n && allTo n f
 
-both : (a b : Bool) → T (a && b) → T a × T b
-both true b t = (tt, t)
-both false b t = absurd t
-
 tested : (n : ℕ) (f : ℕ → Bool) → T (allTo n f) → (v : ℕ) → v < n → T (f v)
 tested zero f t v h = absurd (not-suc-le-zero h)
 tested (suc n) f t v h =
     elim (ℕ-discrete v n) [
-      | yes e ↦ subst (λ (m : ℕ). T (f m)) (sym e) (both (f n) (allTo n f) t .0)
-      | no d ↦ tested n f (both (f n) (allTo n f) t .1) v (omega arith)
+      | yes e ↦ subst (λ (m : ℕ). T (f m)) (sym e) (and-l (f n) (allTo n f) t)
+      | no d ↦ tested n f (and-r (f n) (allTo n f) t) v (omega arith)
     ]
 
 -- all differences of an entry of one list and one of another, modulo 273
@@ -49,14 +47,10 @@ difference-once v h = eqb→eq _ _ (tested 273 (differenceSet checkPositions) tt
 abbrev evenAt : List Bool → List ℕ → ℕ → Bool
 evenAt row cs t = not (parityOver (λ s. bitAt row ((t + s) % 273)) cs)
 
-not-so : (b : Bool) → T (not b) → b ≡ false
-not-so true t = absurd t
-not-so false t = refl
-
 -- THE GENERATOR'S SUMS ARE EVEN at each of the 273 shifts
 pub generator-even : (t : ℕ) → t < 273 → parityOver (λ s. bitAt (true ∷ generator) ((t + s) % 273)) checkPositions ≡ false
 unfolding checkPositions generator
-generator-even t h = not-so _ (tested 273 (evenAt (true ∷ generator) checkPositions) tt t h)
+generator-even t h = is-false _ (tested 273 (evenAt (true ∷ generator) checkPositions) tt t h)
 
 pub generator-length : length generator ≡ 82
 unfolding generator
@@ -76,7 +70,7 @@ allBelow n (x ∷ xs) = ltb x n && allBelow n xs
 
 below : (n : ℕ) (xs : List ℕ) → T (allBelow n xs) → Below n xs
 below n [] t = tt
-below n (x ∷ xs) t = (ltb→lt x n (both (ltb x n) (allBelow n xs) t .0), below n xs (both (ltb x n) (allBelow n xs) t .1))
+below n (x ∷ xs) t = (ltb→lt x n (and-l (ltb x n) (allBelow n xs) t), below n xs (and-r (ltb x n) (allBelow n xs) t))
 
 pub positions-below : Below 273 checkPositions
 unfolding checkPositions

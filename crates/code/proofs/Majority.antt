@@ -9,11 +9,11 @@ use borrow.Author.Tests.{le-leb, lt-leb}
 use lib.Dec.{leb, lit<}
 use lib.ListN.{length}
 use lib.Seq.{ext-getD}
-use Rattle.gf2.specs.Poly.{_⊕_}
+use Rattle.gf2.specs.Poly.{bit, _⊕_}
 use Rattle.gf2.proofs.Bits.{⊕-false, ⊕-twice}
 use Rattle.gf2.proofs.Lists.{length-rowFrom, getD-rowFrom}
 use Rattle.gf2.proofs.Remainders.{multiple-length}
-use Rattle.code.specs.Code.{generator, CodeWord, one, distance}
+use Rattle.code.specs.Code.{generator, CodeWord, distance}
 use Rattle.code.specs.Vote.{bitAt, parityOver, sumOver, checkPositions, paritySum, paritySums, oddSums, voted}
 use Rattle.code.proofs.Sums.{Below, In, in-below, sumTo, sumTo-turn, sumTo-distance, sumTo-le, sum-differences, sumOver-append, sumOver-map, sumOver-le, sumOver-cong, sumOver-add, sumOver-in, parity-sum, parityOver-⊕}
 use Rattle.code.proofs.Computed.{differences, difference-once, positions-below, positions-twice, generator-length}
@@ -44,63 +44,63 @@ over-differences f p ss (k ∷ ks) b =
 -- e tells where a received row and a code word differ
 module _ (e : ℕ → Bool) where
   wrongIn : ℕ → ℕ
-  wrongIn t = sumOver (λ s. one (e ((t + s) % 273))) checkPositions
+  wrongIn t = sumOver (λ s. bit (e ((t + s) % 273))) checkPositions
 
   oddAt : ℕ → Bool
   oddAt t = parityOver (λ s. e ((t + s) % 273)) checkPositions
 
   -- the seventeen sums through p count p seventeen times and every other place once
-  total : (p : ℕ) → p < 273 → sumOver (λ k. wrongIn ((p + 273 - k) % 273)) checkPositions ≡ 16 * one (e p) + sumTo 273 (λ v. one (e v))
+  total : (p : ℕ) → p < 273 → sumOver (λ k. wrongIn ((p + 273 - k) % 273)) checkPositions ≡ 16 * bit (e p) + sumTo 273 (λ v. bit (e v))
   unfolding wrongIn
   total p h =
-      over-differences (λ v. one (e v)) p checkPositions checkPositions positions-below
-      ∙ sum-differences 272 (λ v. one (e ((p + v) % 273))) (differences checkPositions checkPositions) (differences-below checkPositions checkPositions) difference-once
-      ∙ omega (arith, sumTo-turn 273 (λ v. one (e v)) p, ap (λ (m : ℕ). one (e m)) same)
+      over-differences (λ v. bit (e v)) p checkPositions checkPositions positions-below
+      ∙ sum-differences 272 (λ v. bit (e ((p + v) % 273))) (differences checkPositions checkPositions) (differences-below checkPositions checkPositions) difference-once
+      ∙ omega (arith, sumTo-turn 273 (λ v. bit (e v)) p, ap (λ (m : ℕ). bit (e m)) same)
     where
       same : (p + 0) % 273 ≡ p
       same = omega arith
 
-  odd-wrong : (t : ℕ) → wrongIn t % 2 ≡ one (oddAt t)
+  odd-wrong : (t : ℕ) → wrongIn t % 2 ≡ bit (oddAt t)
   unfolding wrongIn oddAt
   odd-wrong t = parity-sum (λ s. e ((t + s) % 273)) checkPositions
 
-  meets : (p : ℕ) → p < 273 → (s : ℕ) → In s checkPositions → one (e p) ≤ wrongIn ((p + 273 - s) % 273)
+  meets : (p : ℕ) → p < 273 → (s : ℕ) → In s checkPositions → bit (e p) ≤ wrongIn ((p + 273 - s) % 273)
   unfolding wrongIn
   meets p h s i =
       let b : s < 273 = in-below 273 s checkPositions positions-below i in
       let back : ((p + 273 - s) % 273 + s) % 273 ≡ p = omega arith in
-      omega (arith, sumOver-in (λ u. one (e (((p + 273 - s) % 273 + u) % 273))) s checkPositions i, ap (λ (m : ℕ). one (e m)) back)
+      omega (arith, sumOver-in (λ u. bit (e (((p + 273 - s) % 273 + u) % 273))) s checkPositions i, ap (λ (m : ℕ). bit (e m)) back)
 
   votes : ℕ → ℕ
-  votes p = sumOver (λ s. one (oddAt ((p + 273 - s) % 273))) checkPositions
+  votes p = sumOver (λ s. bit (oddAt ((p + 273 - s) % 273))) checkPositions
 
   -- a right place has at most as many odd sums as there are wrong places
-  few : (p : ℕ) → p < 273 → sumTo 273 (λ v. one (e v)) ≤ 8 → e p ≡ false → votes p < 9
+  few : (p : ℕ) → p < 273 → sumTo 273 (λ v. bit (e v)) ≤ 8 → e p ≡ false → votes p < 9
   unfolding votes
   few p h w z =
       omega (
         arith,
         total p h,
-        ap one z,
-        sumOver-le (λ s. one (oddAt ((p + 273 - s) % 273))) (λ s. wrongIn ((p + 273 - s) % 273)) checkPositions
+        ap bit z,
+        sumOver-le (λ s. bit (oddAt ((p + 273 - s) % 273))) (λ s. wrongIn ((p + 273 - s) % 273)) checkPositions
             (λ s i. omega (arith, odd-wrong ((p + 273 - s) % 273))),
       )
 
   -- of a wrong place's sums only those are even that hold a second wrong place
-  many : (p : ℕ) → p < 273 → sumTo 273 (λ v. one (e v)) ≤ 9 → e p ≡ true → 9 ≤ votes p
+  many : (p : ℕ) → p < 273 → sumTo 273 (λ v. bit (e v)) ≤ 9 → e p ≡ true → 9 ≤ votes p
   unfolding votes
   many p h w z =
       omega (
         arith,
         total p h,
-        ap one z,
+        ap bit z,
         positions-twice,
-        sumOver-add (λ s. one (oddAt ((p + 273 - s) % 273))) (λ s. wrongIn ((p + 273 - s) % 273)) checkPositions,
-        sumOver-le (λ s. 2) (λ s. one (oddAt ((p + 273 - s) % 273)) + wrongIn ((p + 273 - s) % 273)) checkPositions
-            (λ s i. omega (arith, odd-wrong ((p + 273 - s) % 273), meets p h s i, ap one z)),
+        sumOver-add (λ s. bit (oddAt ((p + 273 - s) % 273))) (λ s. wrongIn ((p + 273 - s) % 273)) checkPositions,
+        sumOver-le (λ s. 2) (λ s. bit (oddAt ((p + 273 - s) % 273)) + wrongIn ((p + 273 - s) % 273)) checkPositions
+            (λ s i. omega (arith, odd-wrong ((p + 273 - s) % 273), meets p h s i, ap bit z)),
       )
 
-  decided : (p : ℕ) → p < 273 → sumTo 273 (λ v. one (e v)) ≤ 8 → leb 9 (votes p) ≡ e p
+  decided : (p : ℕ) → p < 273 → sumTo 273 (λ v. bit (e v)) ≤ 8 → leb 9 (votes p) ≡ e p
   decided p h w = go (e p) refl
     where
       go : (b : Bool) → e p ≡ b → leb 9 (votes p) ≡ b
@@ -115,7 +115,7 @@ module _ (row word : List Bool) (l : length row ≡ 272) (w : CodeWord word) whe
   wrong : ℕ → Bool
   wrong v = bitAt row v ⊕ bitAt word v
 
-  wrongs : sumTo 273 (λ v. one (wrong v)) ≡ distance row word
+  wrongs : sumTo 273 (λ v. bit (wrong v)) ≡ distance row word
   unfolding wrong
   wrongs = sumTo-distance 273 row word (l ∙ sym (code-length word w)) (omega arith)
 
@@ -130,8 +130,8 @@ module _ (row word : List Bool) (l : length row ≡ 272) (w : CodeWord word) whe
   oddSums-votes : (p : ℕ) → oddSums (paritySums row) p ≡ votes wrong p
   unfolding oddSums paritySums votes
   oddSums-votes p =
-      sumOver-cong (λ s. one (bitAt (paritySums row) ((p + 273 - s) % 273))) (λ s. one (oddAt wrong ((p + 273 - s) % 273))) checkPositions
-      (λ s i. ap one (getD-rowFrom (paritySum row) 273 ((p + 273 - s) % 273) (mod-lt (p + 273 - s) (lit< tt)) ∙ odd-sum ((p + 273 - s) % 273)))
+      sumOver-cong (λ s. bit (bitAt (paritySums row) ((p + 273 - s) % 273))) (λ s. bit (oddAt wrong ((p + 273 - s) % 273))) checkPositions
+      (λ s i. ap bit (getD-rowFrom (paritySum row) 273 ((p + 273 - s) % 273) (mod-lt (p + 273 - s) (lit< tt)) ∙ odd-sum ((p + 273 - s) % 273)))
 
   turned : distance row word ≤ 8 → (p : ℕ) → p < 273 → leb 9 (oddSums (paritySums row) p) ≡ bitAt row p ⊕ bitAt word p
   unfolding wrong
@@ -168,12 +168,12 @@ nine-away row word l w d other v e =
       arith,
       wrongs row word l w,
       wrongs row other l v,
-      sumTo-le 273 (λ p. one (wrong row word l w p)) (λ p. one (wrong row other l v p)) (λ p h. more p h),
+      sumTo-le 273 (λ p. bit (wrong row word l w p)) (λ p. bit (wrong row other l v p)) (λ p h. more p h),
     )
   where
-    less : (a b : Bool) → (a ≡ true → b ≡ true) → one a ≤ one b
-    less true b f = omega (arith, ap one (f refl))
+    less : (a b : Bool) → (a ≡ true → b ≡ true) → bit a ≤ bit b
+    less true b f = omega (arith, ap bit (f refl))
     less false b f = omega arith
 
-    more : (p : ℕ) → p < 273 → one (wrong row word l w p) ≤ one (wrong row other l v p)
+    more : (p : ℕ) → p < 273 → bit (wrong row word l w p) ≤ bit (wrong row other l v p)
     more p h = less (wrong row word l w p) (wrong row other l v p) (λ t. sym (turned row other l v e p h) ∙ turned-wrong row word l w (omega arith) p h t)

@@ -8,9 +8,9 @@ use native.Mathlib.Nat.{zero-add, add-zero, zero-mul, one-mul, add-mul, not-suc-
 use native.Mathlib.Omega.{arith}
 use lib.Dec.{eqb, eqb·zero-suc, eqb·suc-zero, eqb·suc-suc}
 use lib.ListN.{length}
-use Rattle.gf2.specs.Poly.{_⊕_}
+use Rattle.gf2.specs.Poly.{bit, _⊕_}
 use Rattle.gf2.proofs.Bits.{⊕-swap}
-use Rattle.code.specs.Code.{one, distance}
+use Rattle.code.specs.Code.{distance}
 use Rattle.code.specs.Vote.{bitAt, parityOver, sumOver}
 
 -- f 0 + .. + f (n - 1)
@@ -58,13 +58,13 @@ sumTo-turn n f (suc p) =
     )
 
 -- the distance is the sum over the places
-pub sumTo-distance : (n : ℕ) (r c : List Bool) → length r ≡ length c → length r ≤ n → sumTo n (λ v. one (bitAt r v ⊕ bitAt c v)) ≡ distance r c
+pub sumTo-distance : (n : ℕ) (r c : List Bool) → length r ≡ length c → length r ≤ n → sumTo n (λ v. bit (bitAt r v ⊕ bitAt c v)) ≡ distance r c
 unfolding sumTo
 sumTo-distance n [] [] e h = sumTo-zero n (λ v. 0) (λ v l. refl)
 sumTo-distance n [] (y ∷ ys) e h = absurd (omega arith)
 sumTo-distance n (x ∷ xs) [] e h = absurd (omega arith)
 sumTo-distance zero (x ∷ xs) (y ∷ ys) e h = absurd (omega arith)
-sumTo-distance (suc n) (x ∷ xs) (y ∷ ys) e h = ap (λ (m : ℕ). one (x ⊕ y) + m) (sumTo-distance n xs ys (omega arith) (omega arith))
+sumTo-distance (suc n) (x ∷ xs) (y ∷ ys) e h = ap (λ (m : ℕ). bit (x ⊕ y) + m) (sumTo-distance n xs ys (omega arith) (omega arith))
 
 -- every entry is below n
 abbrev pub Below : ℕ → List ℕ → Type 0
@@ -106,16 +106,16 @@ sumOver-map f g (x ∷ xs) = omega (arith, sumOver-map f g xs)
 
 -- how often v is an entry
 abbrev pub occurs : ℕ → List ℕ → ℕ
-occurs v xs = sumOver (λ x. one (eqb v x)) xs
+occurs v xs = sumOver (λ x. bit (eqb v x)) xs
 
-picked : (n : ℕ) (f : ℕ → ℕ) (x : ℕ) → x < n → sumTo n (λ v. one (eqb v x) * f v) ≡ f x
+picked : (n : ℕ) (f : ℕ → ℕ) (x : ℕ) → x < n → sumTo n (λ v. bit (eqb v x) * f v) ≡ f x
 unfolding sumTo
 picked zero f x h = absurd (not-suc-le-zero h)
 picked (suc n) f zero h =
-    omega (arith, one-mul (f 0), sumTo-zero n (λ v. one (eqb (suc v) zero) * f (suc v)) (λ v l. simp (eqb·suc-zero, zero-mul)))
+    omega (arith, one-mul (f 0), sumTo-zero n (λ v. bit (eqb (suc v) zero) * f (suc v)) (λ v l. simp (eqb·suc-zero, zero-mul)))
 picked (suc n) f (suc x) h =
-    let first : one (eqb zero (suc x)) * f zero ≡ 0 = simp (eqb·zero-suc, zero-mul) in
-    let others : sumTo n (λ v. one (eqb (suc v) (suc x)) * f (suc v)) ≡ f (suc x) =
+    let first : bit (eqb zero (suc x)) * f zero ≡ 0 = simp (eqb·zero-suc, zero-mul) in
+    let others : sumTo n (λ v. bit (eqb (suc v) (suc x)) * f (suc v)) ≡ f (suc x) =
     simp eqb·suc-suc (picked n (λ v. f (suc v)) x (omega arith)) in
     omega arith
 
@@ -125,8 +125,8 @@ by-value n f [] h = sym (sumTo-zero n (λ v. 0 * f v) (λ v l. zero-mul (f v)))
 by-value n f (x ∷ xs) h =
     omega (
       arith,
-      sumTo-cong n (λ v. (one (eqb v x) + occurs v xs) * f v) (λ v. one (eqb v x) * f v + occurs v xs * f v) (λ v l. add-mul (one (eqb v x)) (occurs v xs) (f v)),
-      sumTo-add n (λ v. one (eqb v x) * f v) (λ v. occurs v xs * f v),
+      sumTo-cong n (λ v. (bit (eqb v x) + occurs v xs) * f v) (λ v. bit (eqb v x) * f v + occurs v xs * f v) (λ v l. add-mul (bit (eqb v x)) (occurs v xs) (f v)),
+      sumTo-add n (λ v. bit (eqb v x) * f v) (λ v. occurs v xs * f v),
       picked n f x (h .0),
       by-value n f xs (h .1),
     )
@@ -148,14 +148,14 @@ sum-differences n f xs b h =
     )
 
 -- a sum of bits is the parity of the sum of numbers
-odd-more : (x y : Bool) (n : ℕ) → n % 2 ≡ one y → (one x + n) % 2 ≡ one (x ⊕ y)
+odd-more : (x y : Bool) (n : ℕ) → n % 2 ≡ bit y → (bit x + n) % 2 ≡ bit (x ⊕ y)
 odd-more true true n h = omega arith
 odd-more true false n h = omega arith
 odd-more false y n h = omega arith
 
-pub parity-sum : (f : ℕ → Bool) (xs : List ℕ) → sumOver (λ v. one (f v)) xs % 2 ≡ one (parityOver f xs)
+pub parity-sum : (f : ℕ → Bool) (xs : List ℕ) → sumOver (λ v. bit (f v)) xs % 2 ≡ bit (parityOver f xs)
 parity-sum f [] = refl
-parity-sum f (x ∷ xs) = odd-more (f x) (parityOver f xs) (sumOver (λ v. one (f v)) xs) (parity-sum f xs)
+parity-sum f (x ∷ xs) = odd-more (f x) (parityOver f xs) (sumOver (λ v. bit (f v)) xs) (parity-sum f xs)
 
 pub parityOver-cong : (f g : ℕ → Bool) (xs : List ℕ) → ((v : ℕ) → f v ≡ g v) → parityOver f xs ≡ parityOver g xs
 parityOver-cong f g [] h = refl

@@ -1,23 +1,21 @@
 -- Document 01, "The block": the generator, code words, and in how many places two rows differ. Assumes nothing.
-use mathlib.Core.Bool.{Bool, true, false}
+use mathlib.Core.Bool.{Bool}
 use mathlib.Core.List.{List, [], _∷_}
 use Prim.Native.Nat.{ℕ, _+_}
-use Rattle.gf2.specs.Poly.{_⊕_, lower, Multiple}
+use Rattle.gf2.specs.Poly.{bit, _⊕_, lower, Multiple}
 
--- x^82 + x^77 + x^76 + x^71 + x^67 + x^66 + x^56 + x^52 + x^48 + x^40 + x^36 + x^34 + x^24 + x^22 + x^18 + x^10 + x^4 + 1, below x^82
+-- x^82 + x^77 + x^76 + x^71 + x^67 + x^66 + x^56 + x^52 + x^48 + x^40 + x^36 + x^34 + x^24 + x^22 + x^18 + x^10 + x^4 + 1; as every divisor here, by
+-- its coefficients below the leading one
 unfoldable pub generator : List Bool
-generator = lower 82 (77 ∷ 76 ∷ 71 ∷ 67 ∷ 66 ∷ 56 ∷ 52 ∷ 48 ∷ 40 ∷ 36 ∷ 34 ∷ 24 ∷ 22 ∷ 18 ∷ 10 ∷ 4 ∷ 0 ∷ [])
+generator = lower 82 (82 ∷ 77 ∷ 76 ∷ 71 ∷ 67 ∷ 66 ∷ 56 ∷ 52 ∷ 48 ∷ 40 ∷ 36 ∷ 34 ∷ 24 ∷ 22 ∷ 18 ∷ 10 ∷ 4 ∷ 0 ∷ [])
 
--- A code word is a 272-bit row whose polynomial is a multiple of the generator; position p is the coefficient of x^(271-p).
+-- A code word is a 272-bit row whose polynomial is a multiple of the generator; position p is the coefficient of x^(271-p). The quotient has
+-- the 190 places that the row has more than the generator's degree.
 abbrev pub CodeWord : List Bool → Type 0
 CodeWord row = Multiple generator 190 row
-
-abbrev pub one : Bool → ℕ
-one true = 1
-one false = 0
 
 -- in how many places two rows differ
 abbrev pub distance : List Bool → List Bool → ℕ
 distance [] ys = 0
 distance (x ∷ xs) [] = 0
-distance (x ∷ xs) (y ∷ ys) = one (x ⊕ y) + distance xs ys
+distance (x ∷ xs) (y ∷ ys) = bit (x ⊕ y) + distance xs ys

@@ -5,8 +5,7 @@ use mathlib.Core.List.{List, [], _∷_, map}
 use Prim.Native.Nat.{ℕ, _+_, _-_, _*_, _%_}
 use lib.Dec.{leb}
 use lib.ListN.{length, getD}
-use Rattle.gf2.specs.Poly.{_⊕_, rowFrom}
-use Rattle.code.specs.Code.{one}
+use Rattle.gf2.specs.Poly.{bit, _⊕_, rowFrom}
 
 -- the seventeen residues, as printed
 abbrev pub residues : List ℕ
@@ -38,7 +37,7 @@ paritySums row = rowFrom (paritySum row) 0 273
 
 -- how many are odd of the seventeen sums that meet in position p, those at the shifts p - s
 unfoldable pub oddSums : List Bool → ℕ → ℕ
-oddSums sums p = sumOver (λ s. one (bitAt sums ((p + 273 - s) % 273))) checkPositions
+oddSums sums p = sumOver (λ s. bit (bitAt sums ((p + 273 - s) % 273))) checkPositions
 
 -- each bit is turned where nine or more of its sums are odd
 unfoldable pub voted : List Bool → List Bool

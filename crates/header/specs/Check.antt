@@ -1,21 +1,17 @@
 -- Document 01, "The long message channel": header checks use x^6 + x^4 + x^3 + 1, start value zero, over all header bits before the check.
 -- Assumes nothing.
 use Prim.Native.Nat.{ℕ, zero, suc, _+_, _*_, _/_, _%_, _^_}
-use mathlib.Core.Bool.{Bool, true, false}
+use mathlib.Core.Bool.{Bool}
 use mathlib.Core.List.{List, [], _∷_}
 use lib.Dec.{eqb}
-use Rattle.gf2.specs.Poly.{lower, checkOf}
-
-abbrev pub bit : Bool → ℕ
-bit true = 1
-bit false = 0
+use Rattle.gf2.specs.Poly.{bit, lower, checkOf}
 
 -- the last n bits of a number, most significant first
 unfoldable pub bits : ℕ → ℕ → List Bool
 bits zero x = []
 bits (suc n) x = eqb (x / 2 ^ n % 2) 1 ∷ bits n x
 
--- the number that bits are behind those of a number before them
+-- bits behind a number: it doubles for each bit that is put behind it
 abbrev pub onto : ℕ → List Bool → ℕ
 onto before [] = before
 onto before (b ∷ row) = onto (before * 2 + bit b) row

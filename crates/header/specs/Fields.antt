@@ -12,7 +12,7 @@ abbrev pub total : List ℕ → ℕ
 total [] = 0
 total (w ∷ ws) = w + total ws
 
--- the number that fields are, of these widths, behind a number before them
+-- fields of these widths behind a number: it moves up by the width of each field that is put behind it
 abbrev pub behind : ℕ → List ℕ → List ℕ → ℕ
 behind before [] vs = before
 behind before (w ∷ ws) [] = before

@@ -4,7 +4,7 @@ ghost use mathlib.Core.Bool.{true, false};
 ghost use mathlib.Core.Path.{_≡_};
 ghost use Prim.Native.Nat.{_≤_, _<_};
 ghost use lib.ListN.{length};
-ghost use Rattle.header.specs.Check.{bit, bits, number, check};
+ghost use Rattle.header.specs.Check.{bits, number, check};
 
 // What stands below the leading power of x^6 + x^4 + x^3 + 1.
 const DIVISOR: [bool; 6] = [false, true, true, false, false, true];
@@ -42,14 +42,8 @@ fn value(row: &[bool]) -> u64
     let mut sum: u64 = 0;
     let mut i: usize = 0;
     while i < row.len() {
-        sum = sum * 2 + one(row[i]);
+        sum = sum * 2 + gf2::number(row[i]) as u64;
         i += 1;
     }
     sum
-}
-
-fn one(b: bool) -> u64
-    ensures { λ r. ⌜ r ≡ bit b ⌝ }
-{
-    if b { 1 } else { 0 }
 }

@@ -1,6 +1,7 @@
 -- `header::value`: what the bits so far are, with those from place i on behind them, is the whole number. Assumes nothing.
 use mathlib.Core.Bool.{false}
-use Rattle.header.proofs.Bits.{value-turn, bit-lt, six-bits}
+use Rattle.gf2.proofs.Bits.{bit-lt}
+use Rattle.header.proofs.Bits.{value-turn, six-bits}
 use Rattle.header.specs.Check.{number, onto}
 use lib.ListN.{length, getD, drop, drop-of-length-le}
 use borrow.Author.Needs.{needs}
@@ -22,11 +23,14 @@ loop-holds c = (omega arith, omega arith, refl)
 mul-sum : tie.Need-mul-sum Inv-loop μ-loop
 mul-sum c = omega (arith, six-bits (c .before .loop .i) (omega arith))
 
-shared-slice-read-one : tie.Need-shared-slice-read-one Inv-loop μ-loop
-shared-slice-read-one c = search needs
+shared-slice-read-number : tie.Need-shared-slice-read-number Inv-loop μ-loop
+shared-slice-read-number c = search needs
 
-one-requires : tie.Need-one-requires Inv-loop μ-loop
-one-requires c κs = search needs
+number-requires : tie.Need-number-requires Inv-loop μ-loop
+number-requires c κs = search needs
+
+cast-sum : tie.Need-cast-sum Inv-loop μ-loop
+cast-sum c = search needs
 
 add-sum : tie.Need-add-sum Inv-loop μ-loop
 add-sum c =
@@ -44,7 +48,7 @@ loop-again c =
     let row = c .before .before .before .before .before .args .row .now in
     let l = c .before .before .before .loop in
     let t = value-turn row _ (l .sum) (l .i) (omega arith) (l .inv .1) (l .inv .2) in
-    (omega arith, rw (c .one .ensures) (t .1), rw (c .one .ensures) (t .0))
+    (omega arith, rw (c .number .ensures) (t .1), rw (c .number .ensures) (t .0))
 
 returns : tie.Need-returns Inv-loop μ-loop
 returns c =
@@ -60,8 +64,9 @@ value-spec =
     μ-loop
     loop-holds
     mul-sum
-    shared-slice-read-one
-    one-requires
+    shared-slice-read-number
+    number-requires
+    cast-sum
     add-sum
     add-i
     loop-less

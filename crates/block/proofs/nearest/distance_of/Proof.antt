@@ -1,7 +1,8 @@
 -- `block::nearest::distance_of`: the places before `place` are counted, the rest is left. Assumes nothing.
 use Rattle.block.proofs.Turns.{distance-turn, distance-end}
-use Rattle.block.proofs.Bytes.{one-le}
-use Rattle.code.specs.Code.{one, distance}
+use Rattle.gf2.proofs.Bits.{bit-lt}
+use Rattle.gf2.specs.Poly.{bit}
+use Rattle.code.specs.Code.{distance}
 use lib.ListN.{drop}
 use lib.Dec.{lit≤}
 use borrow.Author.Needs.{needs}
@@ -50,9 +51,9 @@ loop-again c =
     let h = c .before .before .before .before .before in
     let a = h .before .args in (
       search needs,
-      omega (arith, c .number .ensures, one-le (c .before .sum .result)),
+      omega (arith, c .number .ensures, bit-lt (c .before .sum .result)),
       distance-turn (a .row .now) (a .word .now) (h .loop .place) (h .loop .count) _ (h .loop .inv .2) (c .number .result) (omega arith) (omega arith)
-          (c .number .ensures ∙ ap one (c .before .sum .ensures)),
+          (c .number .ensures ∙ ap bit (c .before .sum .ensures)),
     )
 
 returns : tie.Need-returns Inv-loop μ-loop

@@ -1,10 +1,10 @@
 -- `block::nearest::odd_sums`: the sums at the first l positions are counted, the rest is left. Assumes nothing.
 use mathlib.Core.Bool.{false}
 use Rattle.block.proofs.Turns.{position-below, sum-turn, sum-end}
-use Rattle.block.proofs.Bytes.{one-le}
+use Rattle.gf2.proofs.Bits.{bit-lt}
 use Rattle.code.proofs.Computed.{positions-length}
 use Rattle.code.specs.Vote.{bitAt, sumOver, checkPositions, oddSums}
-use Rattle.code.specs.Code.{one}
+use Rattle.gf2.specs.Poly.{bit}
 use lib.ListN.{getD, drop}
 use lib.Dec.{lit≤}
 use borrow.Author.Needs.{needs}
@@ -16,7 +16,7 @@ use Rattle.block.proofs.nearest.odd_sums.Statement.{statement}
 use Rattle.block.proofs.nearest.odd_sums.Tie as tie
 
 abbrev Inv-loop : tie.InvT-loop
-Inv-loop sums positions p odd₀ l₀ odd l = (l ≤ 17) × (odd ≤ l) × (odd + sumOver (λ s. one (bitAt sums ((p + 273 - s) % 273))) (drop l checkPositions) ≡ oddSums sums p)
+Inv-loop sums positions p odd₀ l₀ odd l = (l ≤ 17) × (odd ≤ l) × (odd + sumOver (λ s. bit (bitAt sums ((p + 273 - s) % 273))) (drop l checkPositions) ≡ oddSums sums p)
 
 abbrev μ-loop : tie.MeasureT-loop
 μ-loop sums positions p odd₀ l₀ odd l = 17 - l
@@ -62,10 +62,10 @@ loop-again c =
     let h = c .before .before .before .before in
     let a = h .before .args in (
       search needs,
-      omega (arith, c .number .ensures, one-le (getD (a .sums .now) ((a .p + 273 - getD (a .positions .now) (h .loop .l) 0) % 273) false)),
-      sum-turn (λ s. one (bitAt (a .sums .now) ((a .p + 273 - s) % 273))) checkPositions (h .loop .l) (h .loop .odd) _ (h .loop .inv .2) (c .number .result)
+      omega (arith, c .number .ensures, bit-lt (getD (a .sums .now) ((a .p + 273 - getD (a .positions .now) (h .loop .l) 0) % 273) false)),
+      sum-turn (λ s. bit (bitAt (a .sums .now) ((a .p + 273 - s) % 273))) checkPositions (h .loop .l) (h .loop .odd) _ (h .loop .inv .2) (c .number .result)
           (omega (arith, positions-length))
-          (c .number .ensures ∙ ap (λ ps. one (bitAt (a .sums .now) ((a .p + 273 - getD ps (h .loop .l) 0) % 273))) (h .before .pre .1)),
+          (c .number .ensures ∙ ap (λ ps. bit (bitAt (a .sums .now) ((a .p + 273 - getD ps (h .loop .l) 0) % 273))) (h .before .pre .1)),
     )
 
 returns : tie.Need-returns Inv-loop μ-loop

@@ -1,7 +1,7 @@
 -- `block::rows::byte_at`: the places from j on are in the byte. Assumes nothing.
 use native.Mathlib.Nat.{add-zero}
 use Rattle.block.proofs.Turns.{byte-turn, byte-small}
-use Rattle.block.proofs.Bytes.{one-le}
+use Rattle.gf2.proofs.Bits.{bit-lt}
 use Rattle.block.specs.Bytes.{packed}
 use lib.ListN.{getD, take, drop}
 use lib.Dec.{lit≤}
@@ -47,7 +47,7 @@ add-byte c =
       h .loop .inv .1,
       byte-small (h .loop .j) (drop (h .before .before .args .at + h .loop .j) (h .before .before .args .row .now)) (omega arith),
       c .number .ensures,
-      one-le (getD (h .before .before .args .row .now) (h .before .before .args .at + (h .loop .j - 1)) false),
+      bit-lt (getD (h .before .before .args .row .now) (h .before .before .args .at + (h .loop .j - 1)) false),
     )
 
 loop-less : tie.Need-loop-less Inv-loop μ-loop
