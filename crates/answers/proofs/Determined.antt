@@ -1,6 +1,6 @@
 -- No two refusals share a number, so what the paper says of an answer determines it. Assumes nothing.
 use mathlib.Core.Path.{_≡_, refl, sym, ap, _∙_}
-use mathlib.Core.List.{List, [], _∷_}
+use mathlib.Core.List.{[], _∷_}
 use Prim.Native.Nat.{ℕ}
 use lib.ListN.{getD}
 use native.Mathlib.Omega.{arith}
@@ -8,7 +8,7 @@ use Rattle.answers.specs.declared.Refusal.{Refusal}
 use Rattle.answers.specs.declared.Refusal.the-variants.{WrongLength, NoCodeWord, CheckBits, HeaderCheck, OtherChannel, HeaderForm, CountOrPadding, OutOfStep, TooMany, TooShort, OutsideRule, BadLine, NotThisGroup, TooLong}
 use Rattle.answers.specs.declared.Answer.{Answer}
 use Rattle.answers.specs.declared.Answer.the-variants.{Accepted, Refused}
-use Rattle.answers.specs.Numbers.{numberOf, Paper, accepted, refused, paper}
+use Rattle.answers.specs.Numbers.{numberOf, paper}
 
 -- the refusal of a number of the table; no number 0 is given
 refusalOf : ℕ → Refusal

@@ -1,7 +1,7 @@
 // The code word within eight places of a row, by majority vote of the seventeen parity sums that meet in each position.
 ghost use mathlib.Core.Path.{_≡_};
-ghost use mathlib.Core.Bool.{Bool, true, false};
-ghost use Prim.Native.Nat.{_<_, _≤_};
+ghost use mathlib.Core.Bool.{true, false};
+ghost use Prim.Native.Nat.{_<_};
 ghost use lib.ListN.{length};
 ghost use Rattle.gf2.specs.Poly.{allZero, remainder};
 ghost use Rattle.code.specs.Code.{distance, generator};

@@ -1,7 +1,7 @@
 -- The bits of a number, one turn of each loop over them, and what the check keeps. Assumes nothing.
 use Prim.Native.Nat.{ℕ, zero, suc, _+_, _-_, _*_, _/_, _%_, _^_, _<_, _≤_}
 use mathlib.Core.Path.{_≡_, refl, sym, ap, _∙_, subst}
-use mathlib.Core.Bool.{Bool, true, false}
+use mathlib.Core.Bool.{Bool, false}
 use mathlib.Core.List.{List, [], _∷_, _++_, append-assoc}
 use native.Mathlib.Nat.{add-zero, add-suc, div-eq-of-lt, pow-suc, pow-le-pow-right, lt-of-lt-of-le, le-add-right, mul-assoc, mul-comm, mul-le-mul-right}
 use native.Mathlib.Numerals.{add-one}

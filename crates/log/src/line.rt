@@ -1,7 +1,6 @@
 // A line of a log, without its line feed, is compared with the text that it must be, so no number is read that could be too great.
 ghost use mathlib.Core.Path.{_≡_};
 ghost use mathlib.Core.Bool.{true};
-ghost use Prim.Native.Nat.{_≤_};
 ghost use Rattle.log.specs.Decimal.{decimal};
 ghost use Rattle.log.specs.Log.{firstLine, channelUpTo, isNext, isSound, judged};
 ghost use Rattle.text.specs.Fields.{sameAs};

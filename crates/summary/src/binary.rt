@@ -1,9 +1,8 @@
 // A binary64 in decimal, exactly. Those that a row shows are 0 or lie from 2^-20 to 8, so they are whole multiples of 2^-72; such a
 // multiple is held in two numbers of 36 bits, for it does not fit one of 64.
 ghost use mathlib.Core.Path.{_≡_};
-ghost use mathlib.Core.List.{_∷_};
 ghost use Prim.Native.Nat.{_+_, _*_, _^_, _<_};
-ghost use lib.Ieee.{binary64, isNan};
+ghost use lib.Ieee.{binary64};
 ghost use lib.Ieee.{toBits};
 ghost use lib.Ieee.Positive.{num, den};
 ghost use Rattle.summary.specs.Export.{sameBits, decimals, expansion, cell};

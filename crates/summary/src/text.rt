@@ -1,9 +1,9 @@
 // A text is built by value, byte by byte, and delivered whole or not at all. It has room for the longest report and the longest row,
 // whatever the numbers, so nothing is ever left off.
 ghost use mathlib.Core.Path.{_≡_};
-ghost use mathlib.Core.List.{[], _∷_, _++_};
-ghost use Prim.Native.Nat.{_≤_, min};
-ghost use lib.ListN.{length, take, drop};
+ghost use mathlib.Core.List.{[], _∷_};
+ghost use Prim.Native.Nat.{min};
+ghost use lib.ListN.{length};
 ghost use Rattle.log.specs.Decimal.{decimal};
 ghost use Rattle.summary.specs.Report.{ended, line, told, written};
 ghost use Rattle.summary.specs.Building.{content, Grows};
