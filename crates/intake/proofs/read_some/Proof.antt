@@ -1,0 +1,60 @@
+use Prim.Native.Nat.{ℕ}
+use mathlib.Core.Path.{_≡_, sym, ap, _∙_}
+use mathlib.Core.List.{List, _++_}
+use borrow.Author.Needs.{needs}
+use Rattle.log.specs.declared.Fed.{Fed}
+use Rattle.log.specs.declared.Reader.{Reader}
+use Rattle.log.specs.Reader.{ToldFed, toldFed, fedOf}
+use Rattle.log.proofs.Pieces.{piece-next}
+use Rattle.intake.specs.Intake.{Reached}
+use Rattle.intake.proofs.read_some.Statement.{statement}
+use Rattle.intake.proofs.read_some.Tie as tie
+
+-- a piece leads on
+reached-next : (s : Reader) (piece : List ℕ) (fed : Fed) → Reached s → toldFed fed ≡ fedOf s piece → Reached (fed .reader)
+reached-next s piece fed r e =
+    record {
+      bytes = r .bytes ++ piece;
+      led = sym (piece-next (r .bytes) piece) ∙ ap (λ (t : Reader). fedOf t piece .reader) (r .led) ∙ sym (ap (λ (t : ToldFed). t .reader) e);
+    }
+
+read-requires : tie.Need-read-requires
+read-requires c κs = search needs
+
+same-length : tie.Need-same-length
+same-length c = search needs
+
+returns : tie.Need-returns
+returns c = search needs
+
+count-requires : tie.Need-count-requires
+count-requires c κs = search needs
+
+slice-reshare-prefix-feed : tie.Need-slice-reshare-prefix-feed
+slice-reshare-prefix-feed c = search needs
+
+slice-aggregate-feed : tie.Need-slice-aggregate-feed
+slice-aggregate-feed c = search needs
+
+feed-requires : tie.Need-feed-requires
+feed-requires c κs = search needs
+
+same-length-2 : tie.Need-same-length-2
+same-length-2 c = search needs
+
+returns-2 : tie.Need-returns-2
+returns-2 c = reached-next _ _ (c .before .feed .result) (search needs) (c .before .feed .ensures)
+
+pub read-some-spec : {M : Type 1} → statement M
+read-some-spec =
+    tie.close
+    (tie.spec
+    read-requires
+    same-length
+    returns
+    count-requires
+    slice-reshare-prefix-feed
+    slice-aggregate-feed
+    feed-requires
+    same-length-2
+    returns-2)
