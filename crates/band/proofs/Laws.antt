@@ -1,27 +1,22 @@
 -- Channels and frequencies: their ranges, and that the conversions undo each other. Assumes nothing.
 use Prim.Native.Nat.{ℕ, _+_, _-_, _*_, _/_, _%_, _≤_}
-use mathlib.Core.Path.{_≡_, refl}
-use mathlib.Core.Bool.{Bool, true, false, _&&_}
+use mathlib.Core.Path.{_≡_}
+use mathlib.Core.Bool.{true, _&&_, and-eq-true-iff}
 use lib.Dec.{leb, eqb}
 use borrow.Author.Tests.{leb-true, le-leb, eqb-true}
 use native.Mathlib.Omega.{arith}
 use Rattle.answers.specs.Numbers.{accepted}
 use Rattle.band.specs.Band.{isChannel, isFrequency, kilohertzOf, channelOf}
 
-pub and-both : (s t : Bool) → (s && t) ≡ true → (s ≡ true) × (t ≡ true)
-and-both true t e = (refl, e)
-and-both false true e = (e, refl)
-and-both false false e = (e, e)
-
 pub within : (a n b : ℕ) → (leb a n && leb n b) ≡ true → (a ≤ n) × (n ≤ b)
-within a n b e = let t = and-both (leb a n) (leb n b) e in (leb-true a n (t .0), leb-true n b (t .1))
+within a n b e = let t = and-eq-true-iff (leb a n) (leb n b) .0 e in (leb-true a n (t .0), leb-true n b (t .1))
 
 pub in-range : (n : ℕ) → isChannel n ≡ true → (1 ≤ n) × (n ≤ 204)
 in-range n e = within 1 n 204 e
 
 pub in-band : (f : ℕ) → isFrequency f ≡ true → (87600 ≤ f) × (f ≤ 107900) × (f % 100 ≡ 0)
 in-band f e =
-    let a = and-both (leb 87600 f && leb f 107900) (eqb (f % 100) 0) e in
+    let a = and-eq-true-iff (leb 87600 f && leb f 107900) (eqb (f % 100) 0) .0 e in
     let b = within 87600 f 107900 (a .0) in
     (b .0, b .1, eqb-true (f % 100) 0 (a .1))
 

@@ -1,7 +1,7 @@
 -- The counts that `isCounts` admits are those that some accepted log gives. Assumes nothing.
 use Prim.Native.Nat.{ℕ, suc, zero, _+_, _-_, _*_, _≤_}
 use mathlib.Core.Path.{_≡_, refl, ap, sym, _∙_}
-use mathlib.Core.Bool.{true}
+use mathlib.Core.Bool.{true, and-eq-true-iff}
 use mathlib.Core.List.{List, [], _∷_, _++_}
 use native.Mathlib.Omega.{arith}
 use lib.ListN.{length, length-append}
@@ -9,7 +9,6 @@ use lib.Dec.{eqb, leb}
 use borrow.Author.Tests.{leb-true, leb-false, le-leb, ne-eqb}
 use Rattle.answers.specs.Numbers.{accepted}
 use Rattle.band.specs.Band.{isChannel}
-use Rattle.band.proofs.Laws.{and-both}
 use Rattle.log.specs.declared.Counts.{Counts}
 use Rattle.log.specs.Log.{isOutcome, logText, allOutcomes, one, counted, countsFrom, tuned, isSound, isCounts}
 use Rattle.log.specs.Reader.{readOf}
@@ -114,7 +113,7 @@ counts-snoc (x ∷ os) o c = counts-snoc os o (counted c x)
 all-snoc : (os : List ℕ) (o : ℕ) → allOutcomes os ≡ true → isOutcome o ≡ true → allOutcomes (os ++ (o ∷ [])) ≡ true
 unfolding allOutcomes
 all-snoc [] o h k = rw k
-all-snoc (x ∷ os) o h k = let a = and-both (isOutcome x) (allOutcomes os) h in rw (a .0) (all-snoc os o (a .1) k)
+all-snoc (x ∷ os) o h k = let a = and-eq-true-iff (isOutcome x) (allOutcomes os) .0 h in rw (a .0) (all-snoc os o (a .1) k)
 
 no-outcomes : (c : Counts) → c .slots ≡ 0 → Sound c → Gives c 0
 unfolding allOutcomes countsFrom
@@ -149,7 +148,7 @@ outcomes-of (suc n) c e s =
 pub log-of-counts : (c : Counts) → isCounts c ≡ true → (log : List ℕ) × (readOf log ≡ record { answer = accepted; line = 0; counts = c })
 unfolding isCounts
 log-of-counts c e =
-    let a = and-both (isChannel (c .channel)) (isSound c) e in
+    let a = and-eq-true-iff (isChannel (c .channel)) (isSound c) .0 e in
     let s = sound c (a .1) in
     let g = outcomes-of (c .slots) c refl s in (
       logText (c .channel) (g .outcomes),
@@ -161,7 +160,7 @@ counts-sound : (os : List ℕ) (c : Counts) → allOutcomes os ≡ true → c .s
 unfolding allOutcomes countsFrom
 counts-sound [] c g h s = s
 counts-sound (o ∷ os) c g h s =
-    let a = and-both (isOutcome o) (allOutcomes os) g in
+    let a = and-eq-true-iff (isOutcome o) (allOutcomes os) .0 g in
     counts-sound os (counted c o) (a .1) (counted-few c o (length os) h) (counted-sound o (a .0) c (omega arith) s)
 
 tuned-sound : (n : ℕ) → Sound (tuned n)

@@ -1,7 +1,8 @@
 -- What a line is compared with, part by part. Assumes nothing.
 use Prim.Native.Nat.{ℕ, suc, zero, _+_, _-_, _/_, _%_, _^_, _<_, _≤_}
 use mathlib.Core.Path.{_≡_, refl, ap, sym, _∙_}
-use mathlib.Core.Bool.{Bool, true, false, _&&_}
+use Rattle.text.proofs.Laws.{other-length}
+use mathlib.Core.Bool.{Bool, true, false, _&&_, and-true}
 use mathlib.Core.List.{List, [], _∷_, _++_, append-assoc}
 use native.Mathlib.Omega.{arith}
 use lib.ListN.{length, getD, take, drop, length-append, take-append-drop}
@@ -11,7 +12,7 @@ use borrow.Author.Tests.{eq-eqb}
 use Rattle.text.specs.Fields.{sameAs}
 use Rattle.log.specs.Decimal.{decimal}
 use Rattle.log.specs.Log.{tab, firstLine, slotLine, last, channelUpTo}
-use Rattle.log.proofs.Lists.{and-true, same-snoc, same-empty, same-append, same-length, take-last}
+use Rattle.log.proofs.Lists.{same-snoc, same-none, same-append, take-last}
 use Rattle.log.proofs.Decimal.{decimal-few, decimal-more}
 
 -- the last digit, and the digits before it
@@ -21,7 +22,7 @@ digit-here l i n h k m f =
     rw (take-last l i h k, decimal-more n m f) (same-snoc (take (i - 1) l) (decimal (n / 10)) (getD l (i - 1) 0) (48 + n % 10))
 
 pub digits-out : (l : List ℕ) (n : ℕ) → 10 ≤ n → n < 10 ^ 20 → sameAs (take 0 l) (decimal n) ≡ false
-digits-out l n m f = rw (decimal-more n m f) (same-empty (decimal (n / 10)) (48 + n % 10))
+digits-out l n m f = rw (decimal-more n m f) (same-none (decimal (n / 10)) (48 + n % 10))
 
 pub one-digit : (l : List ℕ) (i n : ℕ) → i ≡ 1 → i ≤ length l → n < 10 → sameAs (take i l) (decimal n) ≡ eqb (getD l (i - 1) 0) (48 + n)
 one-digit l i n e k m =
@@ -30,7 +31,7 @@ one-digit l i n e k m =
 
 pub more-digits : (l : List ℕ) (i n : ℕ) → (i ≡ 1 → ⊥) → i ≤ length l → n < 10 → sameAs (take i l) (decimal n) ≡ false
 more-digits l i n h k m =
-    rw (decimal-few n m) (same-length (take i l) ((48 + n) ∷ []) (λ e. h (sym (length-take-le i l k) ∙ e)))
+    rw (decimal-few n m) (other-length (take i l) ((48 + n) ∷ []) (λ e. h (sym (length-take-le i l k) ∙ e)))
 
 abbrev pub channelTab : List ℕ
 channelTab = 99 ∷ 104 ∷ 97 ∷ 110 ∷ 110 ∷ 101 ∷ 108 ∷ 9 ∷ []
@@ -44,7 +45,7 @@ first-parts l n h =
 pub first-short : (l : List ℕ) (n : ℕ) → length l < 8 → sameAs l (firstLine n) ≡ false
 unfolding firstLine
 first-short l n h =
-    same-length l (channelTab ++ decimal n) (λ e. omega (arith, e, length-append channelTab (decimal n)))
+    other-length l (channelTab ++ decimal n) (λ e. omega (arith, e, length-append channelTab (decimal n)))
 
 -- a line of two bytes and more
 line-parts : (l : List ℕ) → 2 ≤ length l
@@ -73,7 +74,7 @@ slot-parts l n h =
 pub slot-short : (l : List ℕ) (n z : ℕ) → length l < 2 → sameAs l (slotLine n z) ≡ false
 unfolding slotLine
 slot-short l n z h =
-    same-length l (decimal n ++ (tab ∷ z ∷ [])) (λ e. omega (arith, e, length-append (decimal n) (tab ∷ z ∷ [])))
+    other-length l (decimal n ++ (tab ∷ z ∷ [])) (λ e. omega (arith, e, length-append (decimal n) (tab ∷ z ∷ [])))
 
 pub channel-here : (n : ℕ) (l : List ℕ) → 1 ≤ n → sameAs l (firstLine n) ≡ true → channelUpTo n l ≡ n
 unfolding channelUpTo

@@ -1,7 +1,7 @@
 -- Laws of tests, and of texts that are the same. Assumes nothing.
-use Prim.Native.Nat.{ℕ, suc, _+_, _-_, _≤_}
+use Prim.Native.Nat.{ℕ, suc, _-_, _≤_}
 use mathlib.Core.Path.{_≡_, refl, ap, sym, _∙_}
-use mathlib.Core.Bool.{Bool, true, false, cond, not, _&&_}
+use mathlib.Core.Bool.{Bool, true, false, cond, _&&_, and-eq-true-iff, and-true, and-false, and-assoc}
 use mathlib.Core.List.{List, [], _∷_, _++_}
 use native.Mathlib.Omega.{arith}
 use lib.ListN.{length, getD, take, drop, length-drop}
@@ -9,7 +9,6 @@ use lib.Seq.{take-suc, take-all}
 use lib.Dec.{eqb}
 use borrow.Author.Tests.{eqb-true, eq-eqb}
 use Rattle.text.specs.Fields.{sameAs}
-use Rattle.band.proofs.Laws.{and-both}
 
 pub cond-with {ℓ} : {A : Type ℓ} (P : A → Type 0) (t : Bool) {x y : A} → (t ≡ true → P x) → (t ≡ false → P y) → P (cond t x y)
 cond-with P true f g = f refl
@@ -19,23 +18,7 @@ pub by-cases {ℓ} : (P : Type ℓ) (t : Bool) → (t ≡ true → P) → (t ≡
 by-cases P true f g = f refl
 by-cases P false f g = g refl
 
-pub and-false : (t : Bool) → (t && false) ≡ false
-and-false true = refl
-and-false false = refl
-
-pub and-true : (t : Bool) → (t && true) ≡ t
-and-true true = refl
-and-true false = refl
-
-pub and-assoc : (s t u : Bool) → (s && (t && u)) ≡ ((s && t) && u)
-and-assoc true t u = refl
-and-assoc false t u = refl
-
-pub not-true : (t : Bool) → not t ≡ true → t ≡ false
-not-true true e = sym e
-not-true false e = refl
-
-same-none : (a : List ℕ) (x : ℕ) → sameAs [] (a ++ (x ∷ [])) ≡ false
+pub same-none : (a : List ℕ) (x : ℕ) → sameAs [] (a ++ (x ∷ [])) ≡ false
 same-none [] x = refl
 same-none (b ∷ a) x = refl
 
@@ -48,10 +31,7 @@ pub same-snoc : (a b : List ℕ) (x y : ℕ) → sameAs (a ++ (x ∷ [])) (b ++ 
 same-snoc [] [] x y = and-true (eqb x y)
 same-snoc [] (c ∷ b) x y = ap (λ (t : Bool). eqb x c && t) (same-none b y) ∙ and-false (eqb x c)
 same-snoc (c ∷ a) [] x y = ap (λ (t : Bool). eqb c y && t) (none-same a x) ∙ and-false (eqb c y)
-same-snoc (c ∷ a) (d ∷ b) x y = ap (λ (t : Bool). eqb c d && t) (same-snoc a b x y) ∙ and-assoc (eqb c d) (sameAs a b) (eqb x y)
-
-pub same-empty : (a : List ℕ) (x : ℕ) → sameAs [] (a ++ (x ∷ [])) ≡ false
-same-empty a x = same-none a x
+same-snoc (c ∷ a) (d ∷ b) x y = ap (λ (t : Bool). eqb c d && t) (same-snoc a b x y) ∙ sym (and-assoc (eqb c d) (sameAs a b) (eqb x y))
 
 pub same-append : (a b c d : List ℕ) → length a ≡ length c → sameAs (a ++ b) (c ++ d) ≡ (sameAs a c && sameAs b d)
 same-append [] b [] d e = refl
@@ -65,17 +45,11 @@ same-append (x ∷ a) b [] d e = absurd (differ (length a) e)
     differ n e = omega arith
 same-append (x ∷ a) b (y ∷ c) d e =
     let l : length a ≡ length c = omega arith in
-    ap (λ (t : Bool). eqb x y && t) (same-append a b c d l) ∙ and-assoc (eqb x y) (sameAs a c) (sameAs b d)
+    ap (λ (t : Bool). eqb x y && t) (same-append a b c d l) ∙ sym (and-assoc (eqb x y) (sameAs a c) (sameAs b d))
 
 pub same-refl : (a : List ℕ) → sameAs a a ≡ true
 same-refl [] = refl
 same-refl (x ∷ a) = rw (eq-eqb x x refl) (same-refl a)
-
-pub same-length : (a b : List ℕ) → (length a ≡ length b → ⊥) → sameAs a b ≡ false
-same-length [] [] h = absurd (h refl)
-same-length [] (b ∷ bs) h = refl
-same-length (a ∷ xs) [] h = refl
-same-length (a ∷ xs) (b ∷ bs) h = rw (same-length xs bs (λ e. h (ap suc e))) (and-false (eqb a b))
 
 -- the last byte of a part
 pub take-last : (l : List ℕ) (i : ℕ) → 1 ≤ i → i ≤ length l → take i l ≡ take (i - 1) l ++ (getD l (i - 1) 0 ∷ [])
@@ -91,7 +65,7 @@ same-true [] [] e = refl
 same-true [] (y ∷ b) e = let z : _≡_ {A = ℕ} 0 1 = cc in absurd (omega arith)
 same-true (x ∷ a) [] e = let z : _≡_ {A = ℕ} 0 1 = cc in absurd (omega arith)
 same-true (x ∷ a) (y ∷ b) e =
-    let r = and-both (eqb x y) (sameAs a b) e in
+    let r = and-eq-true-iff (eqb x y) (sameAs a b) .0 e in
     let p = eqb-true x y (r .0) in
     let q = same-true a b (r .1) in
     cc

@@ -1,7 +1,7 @@
 -- One slot more keeps counts sound, and every good line does. Assumes nothing.
 use Prim.Native.Nat.{ℕ, suc, zero, _+_, _-_, _*_, _<_, _≤_}
 use mathlib.Core.Path.{_≡_, refl, ap, sym, _∙_, subst}
-use mathlib.Core.Bool.{true, false, cond, _&&_}
+use mathlib.Core.Bool.{true, false, cond, _&&_, and-eq-true-iff}
 use mathlib.Core.List.{List, [], _∷_}
 use native.Mathlib.Omega.{arith}
 use lib.ListN.{length}
@@ -9,7 +9,7 @@ use lib.Dec.{eqb, ltb}
 use borrow.Author.Tests.{le-leb, eqb-true, ltb-true, ne-eqb}
 use Rattle.text.specs.Fields.{sameAs}
 use Rattle.band.specs.Band.{isChannel}
-use Rattle.band.proofs.Laws.{and-both, within}
+use Rattle.band.proofs.Laws.{within}
 use Rattle.log.specs.declared.Counts.{Counts}
 use Rattle.log.specs.Log.{isCorrected, isOutcome, one, counted, tuned, isSound, channelUpTo, firstLine, slotLine, last, isNext, judged}
 use Rattle.log.specs.Reader.{isBefore}
@@ -109,8 +109,8 @@ pub record Next (slots : ℕ) (line : List ℕ) : Type 0 where
 pub next : (slots : ℕ) (line : List ℕ) → isNext slots line ≡ true → Next slots line
 unfolding isNext
 next n l e =
-    let a = and-both (ltb n 999999 && isOutcome (last l)) (sameAs l (slotLine (n + 1) (last l))) e in
-    let b = and-both (ltb n 999999) (isOutcome (last l)) (a .0) in
+    let a = and-eq-true-iff (ltb n 999999 && isOutcome (last l)) (sameAs l (slotLine (n + 1) (last l))) .0 e in
+    let b = and-eq-true-iff (ltb n 999999) (isOutcome (last l)) .0 (a .0) in
     record { few = ltb-true n 999999 (b .0); outcome = b .1; text = a .1 }
 
 pub channel-most : (n : ℕ) (l : List ℕ) → channelUpTo n l ≤ n
@@ -128,13 +128,13 @@ tuned-before (suc n) h = rw (ne-eqb (suc n) 0 (λ e. omega arith), le-leb 1 (suc
 -- counts before a line: sound, and what the channel says
 pub before-sound : (c : Counts) → isBefore c ≡ true → isSound c ≡ true
 unfolding isBefore
-before-sound c e = and-both (isSound c) (cond (eqb (c .channel) 0) (eqb (c .slots) 0) (isChannel (c .channel))) e .0
+before-sound c e = and-eq-true-iff (isSound c) (cond (eqb (c .channel) 0) (eqb (c .slots) 0) (isChannel (c .channel))) .0 e .0
 
 counted-before : (c : Counts) (o : ℕ) → isOutcome o ≡ true → c .slots < 999999 → eqb (c .channel) 0 ≡ false → isBefore c ≡ true
     → isBefore (counted c o) ≡ true
 unfolding isBefore counted
 counted-before c o h k z e =
-    let a = and-both (isSound c) (cond (eqb (c .channel) 0) (eqb (c .slots) 0) (isChannel (c .channel))) e in
+    let a = and-eq-true-iff (isSound c) (cond (eqb (c .channel) 0) (eqb (c .slots) 0) (isChannel (c .channel))) .0 e in
     let i : isChannel (c .channel) ≡ true = rw z at (a .1) in
     rw (sound-is (counted c o) (counted-sound o h c k (sound c (a .0))), z) i
 

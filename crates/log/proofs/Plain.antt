@@ -1,17 +1,15 @@
 -- Laws of bytes without a line feed. Assumes nothing.
 use Prim.Native.Nat.{ℕ, suc, zero, _+_, _-_, _<_, _≤_}
 use mathlib.Core.Path.{_≡_, refl, ap, sym, _∙_}
-use mathlib.Core.Bool.{true, false, not}
+use mathlib.Core.Bool.{true, false, not, and-eq-true-iff, and-false}
 use mathlib.Core.List.{List, [], _∷_, _++_}
 use native.Mathlib.Omega.{arith}
 use lib.ListN.{length, getD, take, drop, length-drop}
 use lib.Seq.{take-suc, take-all, length-take-le, getD-drop}
 use lib.Dec.{eqb}
 use borrow.Author.Tests.{ne-eqb, eq-eqb}
-use Rattle.band.proofs.Laws.{and-both}
 use Rattle.log.specs.Reader.{isPlain}
 use Rattle.log.specs.Machine.{EndsAt}
-use Rattle.log.proofs.Lists.{and-false}
 
 pub plain-none : isPlain [] ≡ true
 unfolding isPlain
@@ -21,7 +19,7 @@ pub plain-append : (a b : List ℕ) → isPlain a ≡ true → isPlain b ≡ tru
 unfolding isPlain
 plain-append [] b h k = k
 plain-append (x ∷ a) b h k =
-    let r = and-both (not (eqb x 10)) (isPlain a) h in
+    let r = and-eq-true-iff (not (eqb x 10)) (isPlain a) .0 h in
     rw (r .0) (plain-append a b (r .1) k)
 
 pub plain-one : (x : ℕ) → (x ≡ 10 → ⊥) → isPlain (x ∷ []) ≡ true
@@ -30,7 +28,7 @@ plain-one x h = rw (ne-eqb x 10 h)
 
 pub plain-tail : (x : ℕ) (l : List ℕ) → isPlain (x ∷ l) ≡ true → (not (eqb x 10) ≡ true) × (isPlain l ≡ true)
 unfolding isPlain
-plain-tail x l h = and-both (not (eqb x 10)) (isPlain l) h
+plain-tail x l h = and-eq-true-iff (not (eqb x 10)) (isPlain l) .0 h
 
 -- one byte more of a line that starts at i
 pub plain-more : (l : List ℕ) (i j : ℕ) → i ≤ j → j < length l → (getD l j 0 ≡ 10 → ⊥)

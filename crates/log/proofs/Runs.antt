@@ -1,23 +1,22 @@
 -- The machine over bytes: a line that is held, a line that is whole, and the rule that every step keeps. Assumes nothing.
 use Prim.Native.Nat.{ℕ, suc, _+_, _<_, _≤_}
 use mathlib.Core.Path.{_≡_, refl, ap, sym, _∙_, subst}
-use mathlib.Core.Bool.{true, false, _&&_}
+use mathlib.Core.Bool.{true, false, _&&_, and-eq-true-iff}
 use mathlib.Core.List.{List, [], _∷_, _++_, append-assoc, append-nil}
 use native.Mathlib.Numerals.{add-one}
 use native.Mathlib.Omega.{arith}
 use lib.ListN.{length, getD, drop, set, replicate, length-append, length-drop, take-append-drop, length-replicate}
 use lib.Seq.{drop-cons, take-append-seam, set-append-seam, drop-append-seam, length-take-le}
 use lib.Dec.{eqb, ltb}
-use borrow.Author.Tests.{lt-ltb, leb-true, le-leb, eqb-true, eqb-false, ltb-true}
+use borrow.Author.Tests.{lt-ltb, leb-true, le-leb, eqb-true, eqb-false, ltb-true, not-true}
 use Rattle.text.specs.Fields.{sameAs}
-use Rattle.band.proofs.Laws.{and-both}
 use Rattle.log.specs.declared.Counts.{Counts}
 use Rattle.log.specs.declared.Reader.{Reader}
 use Rattle.log.specs.declared.Phase.{Phase}
 use Rattle.log.specs.declared.Phase.the-variants.{Open, Refused, Ended}
 use Rattle.log.specs.Log.{isSound, judged}
 use Rattle.log.specs.Reader.{between, fresh, lineOf, afterLine, holding, openStep, isOpen, stepOf, run, isPlain, isHeld, isHolding, isBefore, isReader}
-use Rattle.log.proofs.Lists.{not-true, cond-with, by-cases, same-refl, same-true}
+use Rattle.log.proofs.Lists.{cond-with, by-cases, same-refl, same-true}
 use Rattle.log.proofs.Plain.{plain-none, plain-append, plain-one, plain-tail}
 use Rattle.log.proofs.Outcomes.{judged-before}
 
@@ -99,9 +98,9 @@ pub record Ruled (s : Reader) : Type 0 where
 pub ruled : (s : Reader) → isReader s ≡ true → Ruled s
 unfolding isReader isHeld
 ruled s e =
-    let a = and-both (isHolding (s .phase) (s .length) && isHeld (s .held) (s .length)) (isBefore (s .counts)) e in
-    let b = and-both (isHolding (s .phase) (s .length)) (isHeld (s .held) (s .length)) (a .0) in
-    let d = and-both (isPlain (lineOf s)) (sameAs (drop (s .length) (s .held)) (drop (s .length) zeros)) (b .1) in
+    let a = and-eq-true-iff (isHolding (s .phase) (s .length) && isHeld (s .held) (s .length)) (isBefore (s .counts)) .0 e in
+    let b = and-eq-true-iff (isHolding (s .phase) (s .length)) (isHeld (s .held) (s .length)) .0 (a .0) in
+    let d = and-eq-true-iff (isPlain (lineOf s)) (sameAs (drop (s .length) (s .held)) (drop (s .length) zeros)) .0 (b .1) in
     record { holding = b .0; plain = d .0; clear = same-true _ _ (d .1); before = a .1 }
 
 pub ruled-is : (s : Reader) → Ruled s → isReader s ≡ true

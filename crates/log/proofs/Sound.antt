@@ -1,10 +1,9 @@
 -- What sound counts are. Assumes nothing.
 use Prim.Native.Nat.{_+_, _-_, _*_, _≤_}
 use mathlib.Core.Path.{_≡_}
-use mathlib.Core.Bool.{true}
+use mathlib.Core.Bool.{true, and-eq-true-iff}
 use lib.Dec.{leb, eqb}
 use borrow.Author.Tests.{leb-true, le-leb, eqb-true, eq-eqb}
-use Rattle.band.proofs.Laws.{and-both}
 use Rattle.log.specs.declared.Counts.{Counts}
 use Rattle.log.specs.Log.{isSound}
 
@@ -19,10 +18,10 @@ pub record Sound (c : Counts) : Type 0 where
 pub sound : (c : Counts) → isSound c ≡ true → Sound c
 unfolding isSound
 sound c e =
-    let a = and-both _ (leb (c .bits) (8 * (c .read - c .clean))) e in
-    let b = and-both _ (leb (c .read - c .clean) (c .bits)) (a .0) in
-    let d = and-both _ (leb (c .clean) (c .read)) (b .0) in
-    let f = and-both (leb (c .slots) 999999) (eqb (c .slots) (c .read + c .noword + c .check + c .missing)) (d .0) in
+    let a = and-eq-true-iff _ (leb (c .bits) (8 * (c .read - c .clean))) .0 e in
+    let b = and-eq-true-iff _ (leb (c .read - c .clean) (c .bits)) .0 (a .0) in
+    let d = and-eq-true-iff _ (leb (c .clean) (c .read)) .0 (b .0) in
+    let f = and-eq-true-iff (leb (c .slots) 999999) (eqb (c .slots) (c .read + c .noword + c .check + c .missing)) .0 (d .0) in
     record {
       few = leb-true (c .slots) 999999 (f .0);
       each = eqb-true (c .slots) (c .read + c .noword + c .check + c .missing) (f .1);

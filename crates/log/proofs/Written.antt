@@ -1,7 +1,7 @@
 -- A log that is written line by line from outcomes reads back with the counts of those outcomes. Assumes nothing.
 use Prim.Native.Nat.{ℕ, suc, zero, _+_, _-_, _<_, _≤_}
 use mathlib.Core.Path.{_≡_, refl, ap, sym, _∙_}
-use mathlib.Core.Bool.{true, false}
+use mathlib.Core.Bool.{true, false, and-eq-true-iff}
 use mathlib.Core.List.{List, [], _∷_, _++_}
 use native.Mathlib.Omega.{arith}
 use lib.ListN.{length, getD, drop, length-append}
@@ -11,7 +11,7 @@ use borrow.Author.Tests.{lt-ltb, ne-eqb, leb-true, leb-false}
 use Rattle.text.specs.Fields.{sameAs}
 use Rattle.answers.specs.Numbers.{accepted}
 use Rattle.band.specs.Band.{isChannel}
-use Rattle.band.proofs.Laws.{and-both, in-range}
+use Rattle.band.proofs.Laws.{in-range}
 use Rattle.log.specs.declared.Counts.{Counts}
 use Rattle.log.specs.declared.Judged.{Judged}
 use Rattle.log.specs.declared.Reader.{Reader}
@@ -132,7 +132,7 @@ pub slots-run : (os : List ℕ) (c : Counts) → eqb (c .channel) 0 ≡ false �
 unfolding slotLines countsFrom allOutcomes
 slots-run [] c z g h = run-none (between Open c)
 slots-run (o ∷ os) c z g h =
-    let a = and-both (isOutcome o) (allOutcomes os) g in
+    let a = and-eq-true-iff (isOutcome o) (allOutcomes os) .0 g in
     slot-run c o (slotLines (c .slots + 1 + 1) os) z (omega arith) (a .0)
     ∙ counted-next c o os _ (slots-run os (counted c o) (counted-channel c o z) (a .1) (counted-few c o (length os) (omega arith)))
 

@@ -3,17 +3,13 @@ use Prim.Native.Nat.{ℕ, suc, zero, _+_, _*_, _/_, _%_, _<_}
 use mathlib.Core.Path.{_≡_, refl, ap, sym, _∙_}
 use mathlib.Core.Bool.{Bool, cond}
 use mathlib.Core.List.{List, [], _∷_, _++_}
-use native.Mathlib.Nat.{mul-assoc, mul-right-comm, add-mul, zero-mul, div-add-mod', eq-of-mul-eq-mul-right}
-use native.Mathlib.Omega.{arith}
+use native.Mathlib.Nat.{mul-assoc, mul-right-comm, add-mul, zero-mul, div-add-mod', eq-of-mul-eq-mul-right, add-left-cancel}
 use lib.Dec.{eqb}
 use lib.Ieee.Nearest.{div-same}
 use borrow.Author.Tests.{eqb-true, eqb-false, eq-eqb, ne-eqb}
 use Rattle.log.specs.Decimal.{decimal}
 use Rattle.log.proofs.Lists.{by-cases}
 use Rattle.summary.specs.Export.{decimals, expansion}
-
-cancel : (a b c : ℕ) → a + b ≡ a + c → b ≡ c
-cancel a b c e = omega arith
 
 -- the remainders of equal fractions are equal fractions
 mod-same : (a c b d : ℕ) → 0 < c → 0 < d → a * d ≡ b * c → a % c * d ≡ b % d * c
@@ -22,7 +18,7 @@ mod-same a c b d C D e =
     let x : a / c * c * d + a % c * d ≡ a * d = sym (add-mul (a / c * c) (a % c) d) ∙ ap (λ (k : ℕ). k * d) (div-add-mod' a c) in
     let y : b / d * d * c + b % d * c ≡ b * c = sym (add-mul (b / d * d) (b % d) c) ∙ ap (λ (k : ℕ). k * c) (div-add-mod' b d) in
     let z : a / c * c * d ≡ b / d * d * c = ap (λ (k : ℕ). k * c * d) q ∙ mul-right-comm (b / d) c d in
-    cancel (b / d * d * c) (a % c * d) (b % d * c) (ap (λ (k : ℕ). k + a % c * d) (sym z) ∙ x ∙ e ∙ sym y)
+    add-left-cancel (b / d * d * c) (ap (λ (k : ℕ). k + a % c * d) (sym z) ∙ x ∙ e ∙ sym y)
 
 -- a fraction is 0 where its equal is
 zero-same : (r c s d : ℕ) → 0 < c → 0 < d → r * d ≡ s * c → eqb r 0 ≡ eqb s 0

@@ -1,7 +1,7 @@
 -- Numbers with the same bits are the same, and what is no number has other bits. Assumes nothing.
 use Prim.Native.Nat.{ℕ, _*_}
 use mathlib.Core.Path.{_≡_, refl, ap, sym, _∙_, subst}
-use mathlib.Core.Bool.{Bool, true, false, not, Bool·beq, _&&_, _||_}
+use mathlib.Core.Bool.{Bool, true, false, not, Bool·beq, _&&_, _||_, and-eq-true-iff}
 use native.Mathlib.Omega.{arith}
 use lib.Dec.{T, eqb}
 use lib.Ieee.{Float, nan, inf, fin, binary64, up, down, fits, isNan, eq, ne, ofBits, toBits}
@@ -10,7 +10,6 @@ use lib.Ieee.Fits.{nan-fits}
 use lib.Ieee.Exact.{HasValue}
 use lib.Ieee.Positive.{num, den}
 use borrow.Author.Tests.{eqb-true, ne-eqb, eq-eqb}
-use Rattle.band.proofs.Laws.{and-both}
 use Rattle.log.proofs.Sound.{sound}
 use Rattle.log.specs.declared.Counts.{Counts}
 use Rattle.log.specs.Log.{isCounts, isSound}
@@ -66,13 +65,13 @@ nan-bits x y e m =
 pub mean-measured : (c : Counts) → isCounts c ≡ true → Measured (share (c .bits) (c .read))
 unfolding isCounts
 mean-measured c e =
-    let s = sound c (and-both (isChannel (c .channel)) (isSound c) e .1) in
+    let s = sound c (and-eq-true-iff (isChannel (c .channel)) (isSound c) .0 e .1) in
     measured-share (c .bits) (c .read) (omega (arith, s .few, s .each)) (omega (arith, s .most))
 
 pub missing-measured : (c : Counts) → isCounts c ≡ true → Measured (share (c .missing) (c .slots))
 unfolding isCounts
 missing-measured c e =
-    let s = sound c (and-both (isChannel (c .channel)) (isSound c) e .1) in
+    let s = sound c (and-eq-true-iff (isChannel (c .channel)) (isSound c) .0 e .1) in
     measured-share (c .missing) (c .slots) (s .few) (omega (arith, s .each))
 
 beq-true : (s t : Bool) → Bool·beq s t ≡ true → s ≡ t
@@ -86,9 +85,9 @@ pub summary-same : (s t : Summary) → T (fits binary64 (s .mean)) → T (fits b
     → isSummary s t ≡ true → s ≡ t
 unfolding isSummary
 summary-same s t f g h k e =
-    let a = and-both (Bool·beq (s .«mean_exists») (t .«mean_exists») && sameBits (s .mean) (t .mean) && Bool·beq (s .«missing_exists») (t .«missing_exists»)) (sameBits (s .missing) (t .missing)) e in
-    let b = and-both (Bool·beq (s .«mean_exists») (t .«mean_exists») && sameBits (s .mean) (t .mean)) (Bool·beq (s .«missing_exists») (t .«missing_exists»)) (a .0) in
-    let d = and-both (Bool·beq (s .«mean_exists») (t .«mean_exists»)) (sameBits (s .mean) (t .mean)) (b .0) in
+    let a = and-eq-true-iff (Bool·beq (s .«mean_exists») (t .«mean_exists») && sameBits (s .mean) (t .mean) && Bool·beq (s .«missing_exists») (t .«missing_exists»)) (sameBits (s .missing) (t .missing)) .0 e in
+    let b = and-eq-true-iff (Bool·beq (s .«mean_exists») (t .«mean_exists») && sameBits (s .mean) (t .mean)) (Bool·beq (s .«missing_exists») (t .«missing_exists»)) .0 (a .0) in
+    let d = and-eq-true-iff (Bool·beq (s .«mean_exists») (t .«mean_exists»)) (sameBits (s .mean) (t .mean)) .0 (b .0) in
     let p = beq-true (s .«mean_exists») (t .«mean_exists») (d .0) in
     let q = bits-same (s .mean) (t .mean) f h (eqb-true (toBits binary64 (s .mean)) (toBits binary64 (t .mean)) (d .1)) in
     let r = beq-true (s .«missing_exists») (t .«missing_exists») (b .1) in

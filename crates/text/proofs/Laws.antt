@@ -1,7 +1,7 @@
 -- Laws of lists that are read from the front. Assumes nothing.
 use Prim.Native.Nat.{ℕ, zero, suc, _+_, _-_, _*_, _<_, _≤_}
 use mathlib.Core.Path.{_≡_, refl, sym, ap, _∙_}
-use mathlib.Core.Bool.{Bool, true, false, _&&_}
+use mathlib.Core.Bool.{true, false, and-false, and-eq-true-iff}
 use mathlib.Core.List.{List, [], _∷_, _++_, append-assoc, append-nil}
 use native.Mathlib.Numerals.{add-one}
 use native.Mathlib.Omega.{arith}
@@ -15,10 +15,6 @@ use Rattle.text.specs.Bytes.{digitOf, hexadecimal, bytesOf}
 -- what is left at an index that is within: an element, and what is left behind it
 pub next : (s : List ℕ) (i : ℕ) → i < length s → drop i s ≡ getD s i 0 ∷ drop (i + 1) s
 next s i h = rw (add-one, drop-cons s i 0)
-
-and-false : (t : Bool) → (t && false) ≡ false
-and-false true = refl
-and-false false = refl
 
 -- lists of other lengths differ
 pub other-length : (a b : List ℕ) → (length a ≡ length b → ⊥) → sameAs a b ≡ false
@@ -38,16 +34,11 @@ no-byte [] h = refl
 no-byte (a ∷ []) h = refl
 no-byte (a ∷ b ∷ s) h = absurd (omega arith)
 
-both : (a b : Bool) → (a && b) ≡ true → (a ≡ true) × (b ≡ true)
-both true true h = (refl, refl)
-both true false h = (refl, h)
-both false b h = let z : _≡_ {A = ℕ} 0 1 = cc in absurd (omega arith)
-
 -- each of digits is one
 pub a-digit : (s : List ℕ) → hexadecimal s ≡ true → (i : ℕ) → i < length s → digitOf (getD s i 0) < 16
 a-digit [] h i k = absurd (omega arith)
-a-digit (b ∷ s) h zero k = ltb-true (digitOf b) 16 (both (ltb (digitOf b) 16) (hexadecimal s) h .0)
-a-digit (b ∷ s) h (suc i) k = a-digit s (both (ltb (digitOf b) 16) (hexadecimal s) h .1) i (omega arith)
+a-digit (b ∷ s) h zero k = ltb-true (digitOf b) 16 (and-eq-true-iff (ltb (digitOf b) 16) (hexadecimal s) .0 h .0)
+a-digit (b ∷ s) h (suc i) k = a-digit s (and-eq-true-iff (ltb (digitOf b) 16) (hexadecimal s) .0 h .1) i (omega arith)
 
 -- what is left from an index on, as the code lends it
 pub tail : (s : List ℕ) (i : ℕ) → take (length s - i) (drop i s) ≡ drop i s

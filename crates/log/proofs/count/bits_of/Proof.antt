@@ -1,6 +1,6 @@
-use Rattle.band.proofs.Laws.{and-both}
 use lib.Dec.{leb}
 use mathlib.Core.Path.{sym, _∙_}
+use mathlib.Core.Bool.{and-eq-true-iff}
 use native.Mathlib.Omega.{arith}
 use borrow.Author.Tests.{leb-true}
 use borrow.Author.Needs.{needs}
@@ -12,7 +12,7 @@ is-corrected-requires c κs = search needs
 
 sub-result : tie.Need-sub-result
 sub-result c =
-    let x = c .before .before .args .outcome in let e = and-both (leb 48 x) (leb x 56) (sym (c .before .is-corrected .ensures) ∙ c .if1 .taken) in
+    let x = c .before .before .args .outcome in let e = and-eq-true-iff (leb 48 x) (leb x 56) .0 (sym (c .before .is-corrected .ensures) ∙ c .if1 .taken) in
     omega (arith, leb-true 48 x (e .0))
 
 cast-result : tie.Need-cast-result
@@ -20,7 +20,7 @@ cast-result c = search needs
 
 returns : tie.Need-returns
 returns c =
-    let x = c .before .before .args .outcome in let t = sym (c .before .is-corrected .ensures) ∙ c .if1 .taken in let e = and-both (leb 48 x) (leb x 56) t in
+    let x = c .before .before .args .outcome in let t = sym (c .before .is-corrected .ensures) ∙ c .if1 .taken in let e = and-eq-true-iff (leb 48 x) (leb x 56) .0 t in
     (rw t, omega (arith, leb-true x 56 (e .1)))
 
 returns-2 : tie.Need-returns-2

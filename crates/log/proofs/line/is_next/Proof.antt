@@ -1,10 +1,9 @@
 use Rattle.log.proofs.Lines.{slot-parts, slot-short}
-use Rattle.log.proofs.Lists.{and-false, and-true}
 use Rattle.log.specs.Log.{isOutcome, isNext, last}
 use borrow.Author.Tests.{lt-ltb, le-ltb, eq-eqb, ne-eqb}
 use Prim.Native.Nat.{ℕ, _-_, _+_}
 use lib.Dec.{ltb}
-use mathlib.Core.Bool.{_&&_, true, false}
+use mathlib.Core.Bool.{_&&_, true, false, and-false, and-true}
 use mathlib.Core.Path.{_≡_, sym, _∙_, ap}
 use native.Mathlib.Omega.{arith}
 use lib.ListN.{length, getD}

@@ -1,9 +1,9 @@
 use Rattle.text.specs.Fields.{sameAs}
 use Rattle.log.proofs.Lines.{digit-here, digits-out, one-digit, more-digits}
-use Rattle.log.proofs.Lists.{and-false, and-true}
 use Rattle.log.specs.Decimal.{decimal}
 use Prim.Native.Nat.{ℕ, _≤_, _<_, _^_}
 use mathlib.Core.Path.{_≡_, sym, _∙_, ap}
+use mathlib.Core.Bool.{and-false, and-true}
 use borrow.Author.Tests.{ne-eqb, eq-eqb}
 use native.Mathlib.Omega.{arith}
 use lib.Seq.{take-all}

@@ -1,10 +1,10 @@
 use denote.Ref.{now}
 use borrow.Author.Tests.{ne-eqb, eqb-true}
 use mathlib.Core.Path.{sym, _∙_, subst}
+use mathlib.Core.Bool.{and-eq-true-iff}
 use Prim.Native.Nat.{ℕ, _+_, _≤_}
 use lib.ListN.{length}
 use Rattle.log.specs.Machine.{Reads}
-use Rattle.band.proofs.Laws.{and-both}
 use Rattle.log.proofs.Outcomes.{before-sound}
 use Rattle.log.proofs.Sound.{sound}
 use Rattle.log.proofs.Slots.{next-slot}
@@ -49,8 +49,8 @@ returns-5 c =
     let l = now (a .piece) in
     let d = c .before .before .before .before .before .before .digits-at in
     let w : d .result .end + 2 ≤ length l = omega (arith, d .ensures .short) in
-    let t = and-both _ _ (sym (c .before .before .is-tail .ensures) ∙ c .before .if5 .taken) in
-    let u = and-both _ _ (t .0) in (
+    let t = and-eq-true-iff _ _ .0 (sym (c .before .before .is-tail .ensures) ∙ c .before .if5 .taken) in
+    let u = and-eq-true-iff _ _ .0 (t .0) in (
       w,
       λ h. next-slot (a .counts) l (a .from) (d .result .end)
           (subst (λ (n : ℕ). Reads l (a .from) (d .result .end) n) (c .before .before .before .if4 .left) (d .ensures))
