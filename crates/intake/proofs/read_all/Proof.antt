@@ -1,3 +1,4 @@
+-- `intake::read_all`: at each turn some bytes lead to the reader. Assumes nothing.
 use lib.ListN.{length}
 use mathlib.Core.Path.{_≡_, refl, sym, _∙_}
 use mathlib.Core.List.{[]}

@@ -1,3 +1,4 @@
+-- `intake::read_log`: what the end tells is what reading the bytes at once tells. Assumes nothing.
 use mathlib.Core.Path.{_≡_, sym, ap, _∙_}
 use borrow.Author.Needs.{needs}
 use Rattle.log.specs.declared.Fed.{Fed}

@@ -1,3 +1,4 @@
+-- `intake::read_some`: the piece goes behind the bytes before it. Assumes nothing.
 use Prim.Native.Nat.{ℕ}
 use mathlib.Core.Path.{_≡_, sym, ap, _∙_}
 use mathlib.Core.List.{List, _++_}
