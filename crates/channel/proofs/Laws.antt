@@ -1,13 +1,12 @@
 -- Laws that several proofs of this crate cite. Assumes nothing.
 use Prim.Native.Nat.{ℕ, _+_, _-_, _%_, _^_, _≤_, _<_}
-use mathlib.Core.Path.{_≡_, refl, ap, _∙_}
-use mathlib.Core.Bool.{Bool, true, false}
+use mathlib.Core.Path.{_≡_, ap, _∙_}
+use mathlib.Core.Bool.{Bool, true, false, _&&_, and-eq-true-iff}
 use native.Mathlib.Omega.{arith}
 use borrow.Author.Tests.{eqb-true, leb-true, le-leb}
 use lib.Dec.{eqb, leb}
 use Rattle.header.specs.Check.{check}
 use Rattle.header.proofs.Bits.{check-wider, check-fits}
-use Rattle.channel.specs.Rules.{unless, both}
 use Rattle.channel.specs.Layer4.{sizeOf}
 use Rattle.channel.specs.Writer.{within}
 use Rattle.channel.specs.declared.writer.Fields.{Fields}
@@ -16,33 +15,18 @@ use Rattle.channel.specs.declared.Channel.{Channel}
 use Rattle.channel.specs.declared.Phase.{Phase}
 use Rattle.channel.specs.declared.Phase.the-variants.{Waiting, Ready, Gathering}
 
-pub both-true : (a b : Bool) → both a b ≡ true → (a ≡ true) × (b ≡ true)
-both-true true b e = (refl, e)
-both-true false b e = (e, let z : false ≡ true = e in cc)
-
--- two tests with one answer are one test
-pub unless-both : {A : Type 0} (a b : Bool) (x y : A) → unless a x (unless b x y) ≡ unless (both a b) x y
-unless-both true b x y = refl
-unless-both false b x y = refl
-
--- what holds on both sides of a test holds of it
-pub unless-elim : {A : Type 0} (P : A → Type 0) (b : Bool) (x y : A) → P x → (b ≡ true → P y) → P (unless b x y)
-unless-elim P true x y px py = py refl
-unless-elim P false x y px py = px
-
 -- a state that keeps its rule holds at most 260 bytes, in twenties
 phase-bytes : (p : Phase) (n sc : ℕ) → phaseHolds p n sc ≡ true → (n ≤ 260) × (n % 20 ≡ 0)
-phase-bytes Waiting n sc e = let h = eqb-true n 0 (both-true (eqb n 0) (eqb sc 0) e .0) in omega arith
+phase-bytes Waiting n sc e = let h = eqb-true n 0 (and-eq-true-iff (eqb n 0) (eqb sc 0) .0 e .0) in omega arith
 phase-bytes Ready n sc e = let h = eqb-true n 0 e in omega arith
 phase-bytes Gathering n sc e =
-    let m = eqb (n % 20) 0 in
-    let r = both-true (leb n 260) m (both-true (leb 20 n) (both (leb n 260) m) e .1) in
-    (leb-true n 260 (r .0), eqb-true (n % 20) 0 (r .1))
+    let t = and-eq-true-iff (leb 20 n && leb n 260) (eqb (n % 20) 0) .0 e in
+    (leb-true n 260 (and-eq-true-iff (leb 20 n) (leb n 260) .0 (t .0) .1), eqb-true (n % 20) 0 (t .1))
 
 module _ (c : Channel) (e : keepsRule c ≡ true) where
   parts : (leb (c .expected) 15 ≡ true) × (phaseHolds (c .phase) (c .gathered) (c .expected) ≡ true)
   unfolding keepsRule
-  parts = both-true (leb (c .expected) 15) (phaseHolds (c .phase) (c .gathered) (c .expected)) e
+  parts = and-eq-true-iff (leb (c .expected) 15) (phaseHolds (c .phase) (c .gathered) (c .expected)) .0 e
 
   pub rule-bytes : (c .gathered ≤ 260) × (c .gathered % 20 ≡ 0)
   rule-bytes = phase-bytes (c .phase) (c .gathered) (c .expected) (parts .1)
@@ -66,11 +50,11 @@ within-widths m sc d e =
     let n = leb (m .number) 16383 in
     let s = leb sc 15 in
     let l = leb d 255 in
-    let t = both-true a (both b (both n (both s l))) e in
-    let u = both-true b (both n (both s l)) (t .1) in
-    let v = both-true n (both s l) (u .1) in
-    let w = both-true s l (v .1) in
-    omega (arith, leb-true (m .ri) 3 (t .0), leb-true (m .ci) 3 (u .0), leb-true (m .number) 16383 (v .0), leb-true sc 15 (w .0), leb-true d 255 (w .1))
+    let t = and-eq-true-iff (a && b && n && s) l .0 e in
+    let u = and-eq-true-iff (a && b && n) s .0 (t .0) in
+    let v = and-eq-true-iff (a && b) n .0 (u .0) in
+    let w = and-eq-true-iff a b .0 (v .0) in
+    omega (arith, leb-true (m .ri) 3 (w .0), leb-true (m .ci) 3 (w .1), leb-true (m .number) 16383 (v .1), leb-true sc 15 (u .1), leb-true d 255 (t .1))
 
 pub within-true : (m : Fields) (sc d : ℕ) → m .ri < 4 → m .ci < 4 → m .number < 16384 → sc < 16 → d ≤ 255 → within m sc d ≡ true
 unfolding within

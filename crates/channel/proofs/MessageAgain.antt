@@ -1,24 +1,24 @@
 -- AN ACCEPTED MESSAGE, WRITTEN AGAIN, HAS THE SAME HEADER, DATA AND PADDING. Assumes nothing.
 use Prim.Native.Nat.{ℕ, zero, suc, _+_, _-_, _*_, _/_, _%_, _^_, _≤_, _<_}
 use mathlib.Core.Path.{_≡_, refl, sym, ap, ap₂, _∙_, subst}
-use mathlib.Core.Bool.{Bool, true, false, not}
+use mathlib.Core.Bool.{Bool, true, false, not, and-eq-true-iff}
 use mathlib.Core.List.{List, [], _∷_, _++_}
 use native.Mathlib.Omega.{arith}
 use borrow.Author.Tests.{eqb-true, lt-leb}
 use lib.Dec.{eqb, leb}
 use lib.ListN.{length, getD, take, drop, replicate, length-drop, take-append-drop}
 use lib.Seq.{take-add, length-take-le, getD-take}
+use Rattle.answers.specs.Rules.{unless}
 use Rattle.header.specs.Check.{bit}
 use Rattle.header.specs.Fields.{Bytes, Fit, field, fields, header, bytesOf, numberOf}
 use Rattle.header.proofs.Fields.{packed-lt, fields-fit, header-again, number-bytes, total-bytes}
 use Rattle.channel.specs.Answers.{Outcome, message, refused}
-use Rattle.channel.specs.Rules.{unless}
 use Rattle.channel.specs.Layer4.{only, layer4, sizeOf, opened, extOf, openedAt, blocksFor, zeros, rightForm, tested, messageOf}
 use Rattle.channel.specs.Reading.{dataOf}
 use Rattle.channel.specs.Writer.{valuesOf, headerBytes, blocksOf, messageBytes}
 use Rattle.channel.specs.declared.Header.{Header}
 use Rattle.channel.specs.declared.layer4.Opened.{Opened}
-use Rattle.channel.proofs.Laws.{both-true, size-room}
+use Rattle.channel.proofs.Laws.{size-room}
 use Rattle.channel.proofs.Headers.{fields-small}
 use Rattle.channel.proofs.HeaderBack.{Right, ext-place}
 
@@ -125,7 +125,7 @@ bytes-take (suc n) (b ∷ bytes) f = (f .0, bytes-take n bytes (f .1))
 zeros-all : (s : List ℕ) → zeros s ≡ true → s ≡ replicate (length s) 0
 zeros-all [] e = refl
 zeros-all (b ∷ s) e =
-    let t = both-true (eqb b 0) (zeros s) e in
+    let t = and-eq-true-iff (eqb b 0) (zeros s) .0 e in
     λ i. eqb-true b 0 (t .0) i ∷ zeros-all s (t .1) i
 
 pub record Again (bytes : List ℕ) (m : Header) : Type 0 where

@@ -1,26 +1,26 @@
 -- What the gathered bytes are, test by test, on the header as it stands in them. Assumes nothing.
 use Prim.Native.Nat.{ℕ, _+_, _*_, _≤_, _<_}
 use mathlib.Core.Path.{_≡_, sym, ap, _∙_}
-use mathlib.Core.Bool.{Bool, true, false, not}
+use mathlib.Core.Bool.{Bool, true, false, not, _&&_}
 use mathlib.Core.List.{List}
 use borrow.Author.Tests.{le-leb, lt-leb}
 use lib.Dec.{eqb, leb}
 use lib.ListN.{length, drop}
-use Rattle.channel.specs.Rules.{unless, both}
+use Rattle.answers.specs.Rules.{unless}
+use Rattle.answers.proofs.Rules.{unless-and}
 use Rattle.channel.specs.Answers.{Outcome, message, refused}
 use Rattle.channel.specs.Layer4.{rightForm, blocksFor, zeros, openedAt, tested, messageOf}
 use Rattle.channel.specs.declared.layer4.Opened.{Opened}
-use Rattle.channel.proofs.Laws.{unless-both}
 use Rattle.channel.proofs.Headers.{openedAt-room}
 
 abbrev pub formed : Opened → Bool
-formed o = both (eqb (o .rfa) 0) (rightForm (o .header .ext) (o .header .number))
+formed o = eqb (o .rfa) 0 && rightForm (o .header .ext) (o .header .number)
 
 abbrev pub endOf : Opened → ℕ
 endOf o = o .header .size + o .header .length
 
 abbrev pub filled : Opened → List ℕ → Bool
-filled o bytes = both (eqb (blocksFor (endOf o) * 20) (length bytes)) (zeros (drop (endOf o) bytes))
+filled o bytes = eqb (blocksFor (endOf o) * 20) (length bytes) && zeros (drop (endOf o) bytes)
 
 module _ (bytes : List ℕ) (o : Opened) (is : o ≡ openedAt bytes) where
   pub room : (o .header .size ≤ 5) × (o .header .length ≤ 255)
@@ -30,10 +30,10 @@ module _ (bytes : List ℕ) (o : Opened) (is : o ≡ openedAt bytes) where
       (unless (leb (endOf o) 260) (refused 14) (unless (filled o bytes) (refused 7) (message (o .header))))))
   unfolding messageOf tested
   in-five =
-      let last = unless-both {A = Outcome} (eqb (blocksFor (endOf o) * 20) (length bytes)) (zeros (drop (endOf o) bytes)) (refused 7) (message (o .header)) in
+      let last = unless-and {A = Outcome} (eqb (blocksFor (endOf o) * 20) (length bytes)) (zeros (drop (endOf o) bytes)) (refused 7) (message (o .header)) in
       ap (λ (p : Opened). tested p bytes) (sym is)
       ∙ ap (λ (t : Outcome). unless (not (o .caf)) (refused 6) (unless (o .checked) (refused 4) t))
-      (unless-both (eqb (o .rfa) 0) (rightForm (o .header .ext) (o .header .number)) (refused 6) _
+      (unless-and (eqb (o .rfa) 0) (rightForm (o .header .ext) (o .header .number)) (refused 6) _
       ∙ ap (λ (t : Outcome). unless (formed o) (refused 6) (unless (leb (endOf o) 260) (refused 14) t)) last)
 
   pub caf-set : o .caf ≡ true → refused 6 ≡ messageOf bytes

@@ -1,7 +1,7 @@
 -- WHAT THE MESSAGE WRITER WRITES READS BACK, from a ready channel that expects the starting SC. Assumes nothing.
 use Prim.Native.Nat.{ℕ, zero, suc, _+_, _-_, _*_, _/_, _%_, _^_, _≤_, _<_}
 use mathlib.Core.Path.{_≡_, refl, ap, ap₂, _∙_, subst}
-use mathlib.Core.Bool.{Bool, true, false}
+use mathlib.Core.Bool.{Bool, true, false, and-eq-true-iff}
 use mathlib.Core.List.{List, [], _∷_, _++_, append-assoc}
 use native.Mathlib.Omega.{arith}
 use borrow.Author.Tests.{eq-eqb, le-leb, lt-ltb, eqb-true}
@@ -24,7 +24,7 @@ use Rattle.channel.specs.declared.layer4.Opened.{Opened}
 use Rattle.channel.specs.declared.Phase.{Phase}
 use Rattle.channel.specs.declared.Phase.the-variants.{Waiting, Ready, Gathering}
 use Rattle.channel.specs.declared.writer.Fields.{Fields}
-use Rattle.channel.proofs.Laws.{both-true, rule-bytes, rule-sc, within-widths, size-room}
+use Rattle.channel.proofs.Laws.{rule-bytes, rule-sc, within-widths, size-room}
 use Rattle.channel.proofs.Writing.{paste-paste, header-length, message-length}
 use Rattle.channel.proofs.HeaderBack.{Right, bit-is, message-back, header-back}
 
@@ -124,7 +124,7 @@ run-back (suc j) c di row p rule full long room =
 
 pub ready-none : (c : Channel) → Listens c → c .gathered ≡ 0
 unfolding keepsRule
-ready-none c l = eqb-true (c .gathered) 0 (rw (l .ready) at (both-true (leb (c .expected) 15) (phaseHolds (c .phase) (c .gathered) (c .expected)) (l .rule) .1))
+ready-none c l = eqb-true (c .gathered) 0 (rw (l .ready) at (and-eq-true-iff (leb (c .expected) 15) (phaseHolds (c .phase) (c .gathered) (c .expected)) .0 (l .rule) .1))
 
 pub ready-rule : (bytes : List ℕ) (sc : ℕ) → keepsRule (channelOf bytes 0 Ready (sc % 16)) ≡ true
 unfolding keepsRule

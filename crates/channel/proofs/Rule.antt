@@ -8,6 +8,7 @@ use borrow.Author.Tests.{ltb-true}
 use lib.Dec.{eqb, ltb}
 use lib.ListN.{length, drop}
 use lib.Seq.{paste}
+use Rattle.answers.proofs.Rules.{unless-elim}
 use Rattle.header.specs.Fields.{field, holds}
 use Rattle.channel.specs.Answers.{Left}
 use Rattle.channel.specs.Layer3.{layer3, headerOf, lfOf, scOf}
@@ -15,7 +16,7 @@ use Rattle.channel.specs.State.{fresh, keepsRule, asWaiting, joined, fol
 use Rattle.channel.specs.declared.Channel.{Channel}
 use Rattle.channel.specs.declared.Phase.{Phase}
 use Rattle.channel.specs.declared.Phase.the-variants.{Waiting, Ready, Gathering}
-use Rattle.channel.proofs.Laws.{unless-elim, rule-bytes}
+use Rattle.channel.proofs.Laws.{rule-bytes}
 use Rattle.channel.proofs.ReadBack.{next-rule, ready-rule}
 
 abbrev Kept : Left → Type 0

@@ -9,8 +9,8 @@ use borrow.Author.Tests.{eq-eqb, ne-eqb, le-ltb, lt-ltb}
 use lib.Dec.{eqb, ltb}
 use lib.ListN.{length, drop}
 use lib.Seq.{paste}
+use Rattle.answers.specs.Rules.{unless}
 use Rattle.header.specs.Check.{check}
-use Rattle.channel.specs.Rules.{unless}
 use Rattle.channel.specs.Answers.{refused, leaves}
 use Rattle.channel.specs.Layer3.{headerOf}
 use Rattle.channel.specs.State.{keepsRule, asWaiting, joined, followed, inPhase, inStep, advanced, stepOf}

@@ -9,11 +9,11 @@ use borrow.Author.Tests.{eqb-true, ltb-true}
 use lib.Dec.{eqb, leb, ltb, eqb·suc-zero}
 use lib.ListN.{length, getD, take, drop, replicate, length-append, length-take, length-drop, take-append-drop}
 use lib.Seq.{paste, take-all, take-at, drop-at, length-take-le, take-append-le, drop-append-le}
+use Rattle.answers.specs.Rules.{unless}
 use Rattle.header.specs.Check.{bit}
 use Rattle.header.specs.Fields.{Bytes, field, total, fields, header, holds, bytesOf}
 use Rattle.header.proofs.Fields.{packed-lt, fields-fit, header-again, number-bytes}
 use Rattle.channel.specs.Answers.{Outcome, taken, message, refused, Left, leaves}
-use Rattle.channel.specs.Rules.{unless}
 use Rattle.channel.specs.Layer3.{layer3, headerOf, lfOf, scOf, blockOf}
 use Rattle.channel.specs.Layer4.{sizeOf, rightForm, blocksFor, zeros, openedAt, tested, messageOf}
 use Rattle.channel.specs.State.{keepsRule, asWaiting, channelOf, joined, followed, advanced, stepOf}

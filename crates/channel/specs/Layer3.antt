@@ -3,10 +3,9 @@
 use Prim.Native.Nat.{ℕ}
 use mathlib.Core.Bool.{Bool}
 use mathlib.Core.List.{List, [], _∷_, _++_}
-use lib.Dec.{eqb}
 use lib.ListN.{take}
 use Rattle.header.specs.Check.{bit}
-use Rattle.header.specs.Fields.{field, header, bytesOf, numberOf}
+use Rattle.header.specs.Fields.{field, flag, header, bytesOf, numberOf}
 
 abbrev pub layer3 : List ℕ
 layer3 = 4 ∷ 1 ∷ 1 ∷ 4 ∷ []
@@ -16,7 +15,7 @@ abbrev pub headerOf : List ℕ → ℕ
 headerOf information = numberOf (take 2 information)
 
 abbrev pub lfOf : ℕ → Bool
-lfOf h = eqb (field layer3 2 h) 1
+lfOf h = flag layer3 2 h
 
 abbrev pub scOf : ℕ → ℕ
 scOf h = field layer3 3 h

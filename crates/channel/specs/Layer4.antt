@@ -1,11 +1,11 @@
 -- Document 01, "Layer 4 header, 32 or 40 bits", and what the gathered bytes of a message are, test by test. Assumes nothing.
 use Prim.Native.Nat.{ℕ, _+_, _*_, _/_, _%_}
-use mathlib.Core.Bool.{Bool, true, not, cond}
+use mathlib.Core.Bool.{Bool, true, not, cond, _&&_}
 use mathlib.Core.List.{List, [], _∷_}
 use lib.Dec.{eqb, leb}
 use lib.ListN.{length, getD, take, drop}
-use Rattle.header.specs.Fields.{total, field, holds, numberOf}
-use Rattle.channel.specs.Rules.{unless, both}
+use Rattle.answers.specs.Rules.{unless}
+use Rattle.header.specs.Fields.{total, field, flag, holds, numberOf}
 use Rattle.channel.specs.Answers.{Outcome, message, refused}
 use Rattle.channel.specs.declared.layer4.Opened.{Opened}
 
@@ -13,16 +13,14 @@ use Rattle.channel.specs.declared.layer4.Opened.{Opened}
 abbrev pub only : Bool → ℕ → ℕ
 only ext width = cond ext width 0
 
--- RI 2, CI 2, First 1, Last 1, EXT 1, ADD 9, then where EXT is 1: EXT ADD 5 and RFA 3; COM 1, CAF 1, data length 8; and the check
+-- RI 2, CI 2, First 1, Last 1, EXT 1, ADD 9, then where EXT is 1: EXT ADD 5 and RFA 3; COM 1, CAF 1, data length 8; and the check:
+-- places 0 RI, 1 CI, 2 First, 3 Last, 4 EXT, 5 ADD, 6 EXT ADD, 7 RFA, 8 COM, 9 CAF, 10 data length
 abbrev pub layer4 : Bool → List ℕ
 layer4 ext = 2 ∷ 2 ∷ 1 ∷ 1 ∷ 1 ∷ 9 ∷ only ext 5 ∷ only ext 3 ∷ 1 ∷ 1 ∷ 8 ∷ []
 
 -- the header's bytes
 abbrev pub sizeOf : Bool → ℕ
 sizeOf ext = cond ext 5 4
-
-abbrev pub flag : List ℕ → ℕ → ℕ → Bool
-flag widths i h = eqb (field widths i h) 1
 
 -- a header as it stands; the service number is ADD, or 512 x EXT ADD + ADD with EXT
 unfoldable pub opened : Bool → ℕ → Opened
@@ -61,7 +59,7 @@ blocksFor n = (n + 19) / 20
 
 abbrev pub zeros : List ℕ → Bool
 zeros [] = true
-zeros (b ∷ bytes) = both (eqb b 0) (zeros bytes)
+zeros (b ∷ bytes) = eqb b 0 && zeros bytes
 
 -- CAF set (6); header check (4); RFA, or the wrong EXT form (6); over 260 bytes (14); wrong block count (7); padding (7); else "message"
 unfoldable pub tested : Opened → List ℕ → Outcome

@@ -1,4 +1,3 @@
-pub mod Rules
 pub mod Answers
 pub mod Layer3
 pub mod Layer4

@@ -1,12 +1,12 @@
 -- Document 01, "Channel state": a fresh state, the rule of a state, and each information block, rule by rule. Assumes nothing.
 use Prim.Native.Nat.{ℕ, _+_, _%_}
-use mathlib.Core.Bool.{Bool, false, cond}
+use mathlib.Core.Bool.{Bool, false, cond, _&&_}
 use mathlib.Core.List.{List}
 use lib.Dec.{eqb, leb, ltb}
 use lib.ListN.{length, take, drop, replicate}
 use lib.Seq.{paste}
+use Rattle.answers.specs.Rules.{unless}
 use Rattle.header.specs.Fields.{field, holds}
-use Rattle.channel.specs.Rules.{unless, both}
 use Rattle.channel.specs.Answers.{taken, refused, Left, leaves}
 use Rattle.channel.specs.Layer3.{layer3, headerOf, lfOf, scOf}
 use Rattle.channel.specs.Layer4.{messageOf}
@@ -23,13 +23,13 @@ fresh = channelOf (replicate 260 0) 0 Waiting 0
 
 -- waiting and ready hold length 0, waiting expects 0, gathering holds 20 to 260 bytes in twenties
 abbrev pub phaseHolds : Phase → ℕ → ℕ → Bool
-phaseHolds Waiting gathered expected = both (eqb gathered 0) (eqb expected 0)
+phaseHolds Waiting gathered expected = eqb gathered 0 && eqb expected 0
 phaseHolds Ready gathered expected = eqb gathered 0
-phaseHolds Gathering gathered expected = both (leb 20 gathered) (both (leb gathered 260) (eqb (gathered % 20) 0))
+phaseHolds Gathering gathered expected = leb 20 gathered && leb gathered 260 && eqb (gathered % 20) 0
 
 -- and SC is at most 15
 unfoldable pub keepsRule : Channel → Bool
-keepsRule c = both (leb (c .expected) 15) (phaseHolds (c .phase) (c .gathered) (c .expected))
+keepsRule c = leb (c .expected) 15 && phaseHolds (c .phase) (c .gathered) (c .expected)
 
 -- as waiting: with LF, ready and expecting SC + 1; without, still waiting; no byte changes
 unfoldable pub asWaiting : Channel → Bool → ℕ → Channel
@@ -58,12 +58,6 @@ inPhase Gathering c lf sc twenty = followed c lf sc twenty
 unfoldable pub advanced : Channel → Bool → ℕ → List ℕ → Left
 advanced c lf sc twenty = inPhase (c .phase) c lf sc twenty
 
--- an SC is expected, and it is this one
-abbrev pub inStep : Phase → ℕ → ℕ → Bool
-inStep Waiting expected sc = false
-inStep Ready expected sc = eqb sc expected
-inStep Gathering expected sc = eqb sc expected
-
 -- state (11), length (1), channel (5), header check (4): these leave the state as it stood
 unfoldable pub stepOf : Channel → List ℕ → Left
 stepOf c information =
@@ -72,3 +66,11 @@ stepOf c information =
     (unless (eqb (field layer3 0 (headerOf information)) 10) (leaves (refused 5) c)
     (unless (holds 10 (headerOf information)) (leaves (refused 4) c)
     (advanced c (lfOf (headerOf information)) (scOf (headerOf information)) (drop 2 information)))))
+
+-- What a private function owes; no public promise cites it.
+
+-- an SC is expected, and it is this one
+abbrev pub inStep : Phase → ℕ → ℕ → Bool
+inStep Waiting expected sc = false
+inStep Ready expected sc = eqb sc expected
+inStep Gathering expected sc = eqb sc expected

@@ -2,14 +2,14 @@
 -- Assumes nothing.
 use Prim.Native.Nat.{ℕ, zero, suc, _+_, _-_, _*_, _/_, _%_}
 use mathlib.Core.Path.{_≡_}
-use mathlib.Core.Bool.{Bool}
+use mathlib.Core.Bool.{Bool, _&&_}
 use mathlib.Core.List.{List, [], _∷_, _++_}
 use lib.Dec.{eqb, leb}
 use lib.ListN.{length, take, drop, replicate}
 use Rattle.answers.specs.Numbers.{Paper, accepted, refused, paper}
+use Rattle.answers.specs.Rules.{unless}
 use Rattle.header.specs.Check.{bit}
 use Rattle.header.specs.Fields.{header, bytesOf}
-use Rattle.channel.specs.Rules.{unless, both}
 use Rattle.channel.specs.Layer3.{blockOf}
 use Rattle.channel.specs.Layer4.{layer4, sizeOf, blocksFor}
 use Rattle.channel.specs.declared.Header.{Header}
@@ -58,7 +58,7 @@ messageBlocks m di sc s = cut (blocksOf (headerFor m (length s))) di sc (message
 
 -- each field within its width, and at most 255 data bytes
 unfoldable pub within : Fields → ℕ → ℕ → Bool
-within m sc d = both (leb (m .ri) 3) (both (leb (m .ci) 3) (both (leb (m .number) 16383) (both (leb sc 15) (leb d 255))))
+within m sc d = leb (m .ri) 3 && leb (m .ci) 3 && leb (m .number) 16383 && leb sc 15 && leb d 255
 
 -- an answer and the blocks written, none on a refusal
 pub record Written : Type 0 where

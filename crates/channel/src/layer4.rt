@@ -1,9 +1,9 @@
 // Layer 4: the header of a message, and the message's tests.
+ghost use mathlib.Core.Bool.{_&&_};
 ghost use mathlib.Core.Path.{_≡_};
 ghost use Prim.Native.Nat.{_*_, _≤_, _<_, _^_};
 ghost use lib.Dec.{eqb};
 ghost use lib.ListN.{length, drop};
-ghost use Rattle.channel.specs.Rules.{both};
 ghost use Rattle.channel.specs.Answers.{outcome};
 ghost use Rattle.channel.specs.Layer4.{only, sizeOf, opened, openedAt, rightForm, blocksFor, messageOf, zeros};
 use crate::DATA_BYTES;
@@ -99,7 +99,7 @@ fn with_ext(ext: bool, field: u64) -> u64
 
 // RFA is zero. A number below 512 is written without EXT, and a greater one needs it: without EXT there are nine bits.
 fn right_form(rfa: u8, ext: bool, number: u16) -> bool
-    ensures { λ r. ⌜ r ≡ both (eqb rfa 0) (rightForm ext number) ⌝ }
+    ensures { λ r. ⌜ r ≡ (eqb rfa 0 && rightForm ext number) ⌝ }
 {
     if rfa != 0 {
         return false;
@@ -110,7 +110,7 @@ fn right_form(rfa: u8, ext: bool, number: u16) -> bool
 // Whether the bytes are the least number of blocks that holds a message up to `end`, and zero behind it.
 fn padded(bytes: &[u8], end: usize) -> bool
     requires { ⌜ end ≤ 260 ⌝ }
-    ensures { λ r. ⌜ r ≡ both (eqb (blocksFor end * 20) (length (now (bytes .entry)))) (zeros (drop end (now (bytes .entry)))) ⌝ }
+    ensures { λ r. ⌜ r ≡ (eqb (blocksFor end * 20) (length (now (bytes .entry))) && zeros (drop end (now (bytes .entry)))) ⌝ }
 {
     if (end + 19) / DATA_BYTES * DATA_BYTES != bytes.len() {
         return false;

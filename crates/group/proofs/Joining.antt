@@ -1,15 +1,15 @@
 -- The step's definition, test by test, as the code groups them. Assumes nothing.
 use Prim.Native.Nat.{ℕ, _*_, _≤_, _<_}
 use mathlib.Core.Path.{_≡_, refl, sym, ap, _∙_}
-use mathlib.Core.Bool.{Bool, true, false, not, cond}
+use mathlib.Core.Bool.{Bool, true, false, not, cond, _&&_, and-eq-true-iff}
 use mathlib.Core.List.{List}
 use native.Mathlib.Omega.{arith}
 use borrow.Author.Tests.{eqb-true, le-leb, lt-ltb, le-ltb}
 use lib.Dec.{eqb, leb, ltb}
 use lib.ListN.{length}
-use Rattle.channel.specs.Rules.{unless, both}
+use Rattle.answers.specs.Rules.{unless}
+use Rattle.answers.proofs.Rules.{unless-and}
 use Rattle.channel.specs.declared.writer.Fields.{Fields}
-use Rattle.channel.proofs.Laws.{both-true, unless-both}
 use Rattle.group.specs.Answers.{refused, Left, leaves}
 use Rattle.group.specs.State.{idle, phaseHolds, keepsRule, within, inStep, joinedOn, followed, joinOf}
 use Rattle.group.specs.declared.Group.{Group}
@@ -20,17 +20,17 @@ use Rattle.group.proofs.Laws.{rule-room}
 -- an idle state that keeps its rule is the idle state of its number
 held-none : (g : Group) → phaseHolds Idle (g .held) (g .messages) (g .ci) ≡ true → g .phase ≡ Idle → g ≡ idle (g .number)
 held-none g e p =
-    let t = both-true (eqb (g .held) 0) (both (eqb (g .messages) 0) (eqb (g .ci) 0)) e in
-    let u = both-true (eqb (g .messages) 0) (eqb (g .ci) 0) (t .1) in
-    let h = eqb-true (g .held) 0 (t .0) in
-    let m = eqb-true (g .messages) 0 (u .0) in
-    let c = eqb-true (g .ci) 0 (u .1) in
+    let t = and-eq-true-iff (eqb (g .held) 0 && eqb (g .messages) 0) (eqb (g .ci) 0) .0 e in
+    let u = and-eq-true-iff (eqb (g .held) 0) (eqb (g .messages) 0) .0 (t .0) in
+    let h = eqb-true (g .held) 0 (u .0) in
+    let m = eqb-true (g .messages) 0 (u .1) in
+    let c = eqb-true (g .ci) 0 (t .1) in
     λ i. record { number = g .number; phase = p i; held = h i; messages = m i; ci = c i }
 
 pub is-idle : (g : Group) → keepsRule g ≡ true → g .phase ≡ Idle → g ≡ idle (g .number)
 unfolding keepsRule
 is-idle g e p =
-    let t = both-true (leb (g .number) 16383) (phaseHolds (g .phase) (g .held) (g .messages) (g .ci)) e in
+    let t = and-eq-true-iff (leb (g .number) 16383) (phaseHolds (g .phase) (g .held) (g .messages) (g .ci)) .0 e in
     held-none g (sym (ap (λ (q : Phase). phaseHolds q (g .held) (g .messages) (g .ci)) p) ∙ t .1) p
 
 module _ (g : Group) (m : Fields) (s buffer : List ℕ) where
@@ -52,17 +52,17 @@ module _ (g : Group) (m : Fields) (s buffer : List ℕ) where
   by-step rule false Gathering e = sym (ap (λ (q : Phase). onward (inStep false q (g .ci) (m .ci)) g) e)
 
   abbrev pub rules : Bool
-  rules = both (keepsRule g) (within m (length s))
+  rules = keepsRule g && within m (length s)
 
   abbrev pub ours : Bool
-  ours = both (eqb (m .number) (g .number)) (not (m .command))
+  ours = eqb (m .number) (g .number) && not (m .command)
 
   in-order : joinOf g m s buffer ≡ unless (leb 3825 (length buffer)) (leaves (refused 10) g buffer) (unless rules (leaves (refused 11) g buffer) (unless ours (leaves (refused 13) g buffer) (ahead (m .first) (g .phase))))
   unfolding joinOf
   in-order =
       ap (λ (t : Left). unless (leb 3825 (length buffer)) (leaves (refused 10) g buffer) t)
-      (unless-both (keepsRule g) (within m (length s)) (leaves (refused 11) g buffer) _
-      ∙ ap (λ (t : Left). unless rules (leaves (refused 11) g buffer) t) (unless-both (eqb (m .number) (g .number)) (not (m .command)) (leaves (refused 13) g buffer) _))
+      (unless-and (keepsRule g) (within m (length s)) (leaves (refused 11) g buffer) _
+      ∙ ap (λ (t : Left). unless rules (leaves (refused 11) g buffer) t) (unless-and (eqb (m .number) (g .number)) (not (m .command)) (leaves (refused 13) g buffer) _))
 
   pub short : leb 3825 (length buffer) ≡ false → leaves (refused 10) g buffer ≡ joinOf g m s buffer
   short e = sym (in-order ∙ rw e)
@@ -79,7 +79,7 @@ module _ (g : Group) (m : Fields) (s buffer : List ℕ) where
         tests : joinOf g m s buffer ≡ onward (inStep (m .first) (b .phase) (b .ci) (m .ci)) b
         tests =
             in-order
-            ∙ rw (le-leb _ _ room, within-rules, belongs) (by-step (both-true (keepsRule g) (within m (length s)) within-rules .0) (m .first) (g .phase) refl)
+            ∙ rw (le-leb _ _ room, within-rules, belongs) (by-step (and-eq-true-iff (keepsRule g) (within m (length s)) .0 within-rules .0) (m .first) (g .phase) refl)
             ∙ sym (ap (λ (h : Group). onward (inStep (m .first) (h .phase) (h .ci) (m .ci)) h) is)
 
         pub out-of-step : inStep (m .first) (b .phase) (b .ci) (m .ci) ≡ false → leaves (refused 8) (idle (g .number)) buffer ≡ joinOf g m s buffer

@@ -1,7 +1,7 @@
 -- Tests taken apart, the rules of a state and of a message as bounds, and the copy. Assumes nothing.
 use Prim.Native.Nat.{ℕ, _+_, _-_, _*_, _≤_}
 use mathlib.Core.Path.{_≡_, refl, sym, ap, _∙_}
-use mathlib.Core.Bool.{Bool, true, false, cond}
+use mathlib.Core.Bool.{Bool, true, false, cond, _&&_, and-eq-true-iff}
 use mathlib.Core.List.{List, _++_, append-assoc}
 use native.Mathlib.Omega.{arith}
 use borrow.Author.Tests.{eqb-true, leb-true}
@@ -10,9 +10,7 @@ use lib.Dec.{eqb, leb}
 use lib.ListN.{length, take, drop}
 use lib.Seq.{paste, drop-drop}
 use Rattle.gf2.proofs.Lists.{tail-lent, tail-back}
-use Rattle.channel.specs.Rules.{both}
 use Rattle.channel.specs.declared.writer.Fields.{Fields}
-use Rattle.channel.proofs.Laws.{both-true}
 use Rattle.group.specs.State.{phaseHolds, keepsRule, within}
 use Rattle.group.specs.declared.Group.{Group}
 use Rattle.group.specs.declared.Phase.{Phase}
@@ -26,27 +24,27 @@ cond-elim P false x y px py = py refl
 -- at most fifteen messages, 255 bytes for each, and a CI of two bits
 phase-room : (p : Phase) (held messages ci : ℕ) → phaseHolds p held messages ci ≡ true → (held ≤ 255 * messages) × (messages ≤ 15) × (ci ≤ 3)
 phase-room Idle held messages ci e =
-    let t = both-true (eqb held 0) (both (eqb messages 0) (eqb ci 0)) e in
-    let u = both-true (eqb messages 0) (eqb ci 0) (t .1) in
-    omega (arith, eqb-true held 0 (t .0), eqb-true messages 0 (u .0), eqb-true ci 0 (u .1))
+    let t = and-eq-true-iff (eqb held 0 && eqb messages 0) (eqb ci 0) .0 e in
+    let u = and-eq-true-iff (eqb held 0) (eqb messages 0) .0 (t .0) in
+    omega (arith, eqb-true held 0 (u .0), eqb-true messages 0 (u .1), eqb-true ci 0 (t .1))
 phase-room Gathering held messages ci e =
     let l = leb held (255 * messages) in
-    let t = both-true (leb messages 15) (both l (leb ci 3)) (both-true (leb 1 messages) (both (leb messages 15) (both l (leb ci 3))) e .1) in
-    let u = both-true l (leb ci 3) (t .1) in
-    (leb-true held (255 * messages) (u .0), leb-true messages 15 (t .0), leb-true ci 3 (u .1))
+    let t = and-eq-true-iff (leb 1 messages && leb messages 15 && l) (leb ci 3) .0 e in
+    let u = and-eq-true-iff (leb 1 messages && leb messages 15) l .0 (t .0) in
+    (leb-true held (255 * messages) (u .1), leb-true messages 15 (and-eq-true-iff (leb 1 messages) (leb messages 15) .0 (u .0) .1), leb-true ci 3 (t .1))
 
 pub rule-room : (g : Group) → keepsRule g ≡ true → (g .held ≤ 255 * g .messages) × (g .messages ≤ 15) × (g .ci ≤ 3)
 unfolding keepsRule
 rule-room g e =
-    phase-room (g .phase) (g .held) (g .messages) (g .ci) (both-true (leb (g .number) 16383) (phaseHolds (g .phase) (g .held) (g .messages) (g .ci)) e .1)
+    phase-room (g .phase) (g .held) (g .messages) (g .ci) (and-eq-true-iff (leb (g .number) 16383) (phaseHolds (g .phase) (g .held) (g .messages) (g .ci)) .0 e .1)
 
 pub within-bounds : (m : Fields) (d : ℕ) → within m d ≡ true → (d ≤ 255) × (m .ci ≤ 3)
 unfolding within
 within-bounds m d e =
-    let t = both-true (leb (m .number) 16383) (both (leb d 255) (both (leb (m .ri) 3) (leb (m .ci) 3))) e in
-    let u = both-true (leb d 255) (both (leb (m .ri) 3) (leb (m .ci) 3)) (t .1) in
-    let v = both-true (leb (m .ri) 3) (leb (m .ci) 3) (u .1) in
-    (leb-true d 255 (u .0), leb-true (m .ci) 3 (v .1))
+    let n = leb (m .number) 16383 in
+    let t = and-eq-true-iff (n && leb d 255 && leb (m .ri) 3) (leb (m .ci) 3) .0 e in
+    let u = and-eq-true-iff (n && leb d 255) (leb (m .ri) 3) .0 (t .0) in
+    (leb-true d 255 (and-eq-true-iff n (leb d 255) .0 (u .0) .1), leb-true (m .ci) 3 (t .1))
 
 -- the part from a place on, lent to a copy and given back
 pub copied : (buffer s filled : List ℕ) (at : ℕ) → filled ≡ take (length s) s ++ drop (length s) (take (length buffer - at) (drop at buffer))

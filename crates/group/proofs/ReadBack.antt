@@ -2,7 +2,7 @@
 -- Assumes nothing.
 use Prim.Native.Nat.{ℕ, zero, suc, _+_, _-_, _*_, _/_, _%_, _≤_, _<_}
 use mathlib.Core.Path.{_≡_, refl, sym, ap, ap₂, _∙_, subst}
-use mathlib.Core.Bool.{Bool, true, false}
+use mathlib.Core.Bool.{Bool, true, false, _&&_}
 use mathlib.Core.List.{List, [], _∷_, _++_, append-assoc}
 use native.Mathlib.Numerals.{add-one}
 use native.Mathlib.Omega.{arith}
@@ -13,7 +13,6 @@ use lib.Seq.{paste, length-paste, take-all}
 use Rattle.channel.specs.Answers as channel
 use Rattle.channel.specs.Layer4.{sizeOf, blocksFor}
 use Rattle.channel.specs.Reading.{answersOf, channelAfter, Listens}
-use Rattle.channel.specs.Rules.{both}
 use Rattle.channel.specs.State.{stepOf}
 use Rattle.channel.specs.Writer.{headerFor, messageBlocks}
 use Rattle.channel.specs.declared.Channel.{Channel}
@@ -114,8 +113,8 @@ module _ (number ri : ℕ) (small-number : number ≤ 16383) (small-ri : ri ≤ 
   follows held messages ci last s buffer rule hc hd hm room =
       let g = groupOf number Gathering held messages ci in
       let m = groupFields number ri ((ci + 1) % 4) false last in
-      let rules : both (keepsRule g) (within m (length s)) ≡ true = rw (rule, allowed ((ci + 1) % 4) (length s) false last (omega arith) hd) in
-      let ours : both (eqb number number) true ≡ true = rw (eq-eqb number number refl) in
+      let rules : (keepsRule g && within m (length s)) ≡ true = rw (rule, allowed ((ci + 1) % 4) (length s) false last (omega arith) hd) in
+      let ours : (eqb number number && true) ≡ true = rw (eq-eqb number number refl) in
       sym (joins g m s buffer room rules ours g refl (eq-eqb ((ci + 1) % 4) ((ci + 1) % 4) refl) hm)
 
   pub record Joins (k : ℕ) (first : Bool) (ci : ℕ) (s : List ℕ) (g base : Group) (buffer : List ℕ) : Type 0 where
@@ -186,9 +185,9 @@ group-back x s c g buffer fits l sc rule same room =
     let read : messagesRead c (groupBlocks x s) ≡ messages = ap (messagesRead c) (sym blocks) ∙ R .0 in
     let m = groupFields (x .number) (x .ri) (x .ci) true (eqb k 0) in
     let few : length (take 255 s) ≤ 255 = omega (arith, length-take 255 s) in
-    let rules : both (keepsRule g) (within m (length (take 255 s))) ≡ true =
+    let rules : (keepsRule g && within m (length (take 255 s))) ≡ true =
     rw (rule, allowed (x .number) (x .ri) (b .0) (b .1) (x .ci) (length (take 255 s)) true (eqb k 0) (b .3) few) in
-    let ours : both (eqb (x .number) (g .number)) true ≡ true = rw (eq-eqb _ _ (sym same)) in
+    let ours : (eqb (x .number) (g .number) && true) ≡ true = rw (eq-eqb _ _ (sym same)) in
     let first : joinOf g m (take 255 s) buffer ≡ joinedOn (idle (x .number)) m (take 255 s) buffer =
     sym (joins g m (take 255 s) buffer room rules ours (idle (g .number)) refl refl (omega arith))
     ∙ ap (λ (i : ℕ). joinedOn (idle i) m (take 255 s) buffer) same in

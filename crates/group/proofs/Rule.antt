@@ -1,14 +1,14 @@
 -- A STATE THAT KEEPS ITS RULE STILL KEEPS IT AFTER ANY MESSAGE, and a fresh one keeps it. Assumes nothing.
 use Prim.Native.Nat.{ℕ, _+_, _*_, _%_, _≤_, _<_}
 use mathlib.Core.Path.{_≡_}
-use mathlib.Core.Bool.{true, not}
+use mathlib.Core.Bool.{true, not, and-eq-true-iff}
 use mathlib.Core.List.{List}
 use native.Mathlib.Omega.{arith}
 use borrow.Author.Tests.{le-leb, leb-true, ltb-true}
 use lib.Dec.{eqb, leb, ltb}
 use lib.ListN.{length}
 use Rattle.channel.specs.declared.writer.Fields.{Fields}
-use Rattle.channel.proofs.Laws.{unless-elim, both-true}
+use Rattle.answers.proofs.Rules.{unless-elim}
 use Rattle.group.specs.Answers.{Left, Made}
 use Rattle.group.specs.State.{groupOf, idle, newOf, phaseHolds, keepsRule, within, joinedOn, followed, joinOf}
 use Rattle.group.specs.declared.Group.{Group}
@@ -18,7 +18,7 @@ use Rattle.group.proofs.Laws.{cond-elim, rule-room, within-bounds}
 
 pub rule-number : (g : Group) → keepsRule g ≡ true → g .number ≤ 16383
 unfolding keepsRule
-rule-number g e = leb-true (g .number) 16383 (both-true (leb (g .number) 16383) (phaseHolds (g .phase) (g .held) (g .messages) (g .ci)) e .0)
+rule-number g e = leb-true (g .number) 16383 (and-eq-true-iff (leb (g .number) 16383) (phaseHolds (g .phase) (g .held) (g .messages) (g .ci)) .0 e .0)
 
 pub idle-rule : (number : ℕ) → number ≤ 16383 → keepsRule (idle number) ≡ true
 unfolding keepsRule

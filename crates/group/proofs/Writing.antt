@@ -1,7 +1,7 @@
 -- The blocks of messages one after another: how many they are, and one message more. Assumes nothing.
 use Prim.Native.Nat.{ℕ, zero, suc, _+_, _-_, _*_, _/_, _%_, _≤_, _<_, min}
 use mathlib.Core.Path.{_≡_, refl, sym, ap, ap₂, _∙_}
-use mathlib.Core.Bool.{Bool, true, false}
+use mathlib.Core.Bool.{Bool, true, false, _&&_, and-eq-true-iff}
 use mathlib.Core.List.{List, [], _++_, append-assoc}
 use native.Mathlib.Decide.{decLe}
 use native.Mathlib.Omega.{arith}
@@ -12,13 +12,12 @@ use lib.ListN.{length, take, drop, length-append, length-take, length-drop, drop
 use lib.Seq.{take-all, take-at, drop-at, drop-drop, length-take-le}
 use Rattle.answers.specs.Numbers.{accepted}
 use Rattle.gf2.proofs.Lists.{tail-lent, tail-back}
-use Rattle.channel.specs.Rules.{both}
 use Rattle.channel.specs.Layer4.{sizeOf, blocksFor}
 use Rattle.channel.specs.Writer.{headerFor, messageBytes, messageBlocks, flat, Written, written, Writes}
 use Rattle.channel.specs.Writer as channel
 use Rattle.channel.specs.declared.writer.Fields.{Fields}
 use Rattle.channel.specs.declared.writer.Wrote.{Wrote}
-use Rattle.channel.proofs.Laws.{both-true, size-room}
+use Rattle.channel.proofs.Laws.{size-room}
 use Rattle.channel.proofs.Writing.{length-cut, length-flat, message-length, flat-append}
 use Rattle.group.specs.Writer.{within, groupFields, messagesOf, blocksOf, messagesFor}
 use Rattle.group.specs.declared.writer.Series.{Series}
@@ -49,11 +48,11 @@ series-bounds x n e =
     let d = leb (x .sc) 15 in
     let f = leb (x .ci) 3 in
     let l = leb n 3825 in
-    let t = both-true a (both b (both d (both f l))) e in
-    let u = both-true b (both d (both f l)) (t .1) in
-    let v = both-true d (both f l) (u .1) in
-    let w = both-true f l (v .1) in
-    (leb-true (x .number) 16383 (t .0), leb-true (x .ri) 3 (u .0), leb-true (x .sc) 15 (v .0), leb-true (x .ci) 3 (w .0), leb-true n 3825 (w .1))
+    let t = and-eq-true-iff (a && b && d && f) l .0 e in
+    let u = and-eq-true-iff (a && b && d) f .0 (t .0) in
+    let v = and-eq-true-iff (a && b) d .0 (u .0) in
+    let w = and-eq-true-iff a b .0 (v .0) in
+    (leb-true (x .number) 16383 (w .0), leb-true (x .ri) 3 (w .1), leb-true (x .sc) 15 (v .1), leb-true (x .ci) 3 (u .1), leb-true n 3825 (t .1))
 
 -- the message writer takes such a message
 pub taken-by-channel : (number ri ci sc n : ℕ) (first last : Bool) → number ≤ 16383 → ri ≤ 3 → ci ≤ 3 → sc ≤ 15 → n ≤ 255

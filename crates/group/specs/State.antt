@@ -1,13 +1,13 @@
 -- Document 01, "Group state": a fresh state, the rule of a state, and each message, rule by rule. Assumes nothing.
 use Prim.Native.Nat.{ℕ, _+_, _*_, _%_}
-use mathlib.Core.Bool.{Bool, true, false, not, cond}
+use mathlib.Core.Bool.{Bool, true, false, not, cond, _&&_}
 use mathlib.Core.List.{List}
 use lib.Dec.{eqb, leb, ltb}
 use lib.ListN.{length}
 use lib.Seq.{paste}
 use Rattle.answers.specs.Numbers.{accepted}
 use Rattle.answers.specs.Numbers as numbers
-use Rattle.channel.specs.Rules.{unless, both}
+use Rattle.answers.specs.Rules.{unless}
 use Rattle.channel.specs.declared.writer.Fields.{Fields}
 use Rattle.group.specs.Answers.{taken, whole, refused, Left, leaves, Made, made}
 use Rattle.group.specs.declared.Group.{Group}
@@ -27,15 +27,15 @@ newOf number = unless (leb number 16383) (made (numbers.refused 11) (idle 0)) (m
 
 -- idle holds 0 bytes, 0 messages and CI 0; gathering holds 1 to 15 messages, at most 255 bytes for each, and a CI
 abbrev pub phaseHolds : Phase → ℕ → ℕ → ℕ → Bool
-phaseHolds Idle held messages ci = both (eqb held 0) (both (eqb messages 0) (eqb ci 0))
-phaseHolds Gathering held messages ci = both (leb 1 messages) (both (leb messages 15) (both (leb held (255 * messages)) (leb ci 3)))
+phaseHolds Idle held messages ci = eqb held 0 && eqb messages 0 && eqb ci 0
+phaseHolds Gathering held messages ci = leb 1 messages && leb messages 15 && leb held (255 * messages) && leb ci 3
 
 unfoldable pub keepsRule : Group → Bool
-keepsRule g = both (leb (g .number) 16383) (phaseHolds (g .phase) (g .held) (g .messages) (g .ci))
+keepsRule g = leb (g .number) 16383 && phaseHolds (g .phase) (g .held) (g .messages) (g .ci)
 
 -- a message with d data bytes: its number at most 16,383, its data at most 255 bytes, each field within its width
 unfoldable pub within : Fields → ℕ → Bool
-within m d = both (leb (m .number) 16383) (both (leb d 255) (both (leb (m .ri) 3) (leb (m .ci) 3)))
+within m d = leb (m .number) 16383 && leb d 255 && leb (m .ri) 3 && leb (m .ci) 3
 
 -- the data is written at the counted place; with Last the answer is "group" with its length and the state is idle; without, "taken", gathering
 unfoldable pub joinedOn : Group → Fields → List ℕ → List ℕ → Left
@@ -52,12 +52,6 @@ followed Gathering g m s buffer =
     (unless (ltb (g .messages) 15) (leaves (refused 9) (idle (g .number)) buffer)
     (joinedOn g m s buffer))
 
--- a First is in step with any state, another message with one that gathers and has the CI before its own
-abbrev pub inStep : Bool → Phase → ℕ → ℕ → Bool
-inStep true phase ci next = true
-inStep false Idle ci next = false
-inStep false Gathering ci next = eqb next ((ci + 1) % 4)
-
 -- buffer short (10); a state otherwise, number above 16,383, data over 255 bytes or a field over its width (11); another service number or COM set (13);
 -- these change nothing. First set: whatever was gathered is dropped and this data is the group so far
 unfoldable pub joinOf : Group → Fields → List ℕ → List ℕ → Left
@@ -69,3 +63,11 @@ joinOf g m s buffer =
     (unless (not (m .command)) (leaves (refused 13) g buffer)
     (cond (m .first) (joinedOn (idle (g .number)) m s buffer)
     (followed (g .phase) g m s buffer))))))
+
+-- What a private function owes; no public promise cites it.
+
+-- a First is in step with any state, another message with one that gathers and has the CI before its own
+abbrev pub inStep : Bool → Phase → ℕ → ℕ → Bool
+inStep true phase ci next = true
+inStep false Idle ci next = false
+inStep false Gathering ci next = eqb next ((ci + 1) % 4)

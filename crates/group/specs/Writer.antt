@@ -1,19 +1,19 @@
 -- Document 01, "The group writer": number, RI, DI, starting SC and CI and 0 to 3,825 bytes in, the blocks of the fewest messages out; bytes after them stay.
 -- Assumes nothing.
 use Prim.Native.Nat.{ℕ, zero, suc, _+_, _-_, _*_, _/_, _%_}
-use mathlib.Core.Bool.{Bool, true, false}
+use mathlib.Core.Bool.{Bool, true, false, _&&_}
 use mathlib.Core.List.{List, [], _∷_, _++_}
 use lib.Dec.{eqb, leb}
 use lib.ListN.{length, take, drop}
 use Rattle.answers.specs.Numbers.{accepted, refused}
-use Rattle.channel.specs.Rules.{unless, both}
+use Rattle.answers.specs.Rules.{unless}
 use Rattle.channel.specs.Writer.{messageBlocks, Written, written}
 use Rattle.channel.specs.declared.writer.Fields.{Fields}
 use Rattle.group.specs.declared.writer.Series.{Series}
 
 -- each field within its width, and at most 3,825 bytes
 unfoldable pub within : Series → ℕ → Bool
-within x n = both (leb (x .number) 16383) (both (leb (x .ri) 3) (both (leb (x .sc) 15) (both (leb (x .ci) 3) (leb n 3825))))
+within x n = leb (x .number) 16383 && leb (x .ri) 3 && leb (x .sc) 15 && leb (x .ci) 3 && leb n 3825
 
 -- a message, and its fields in a group: COM 0
 pub record Message : Type 0 where

@@ -1,12 +1,11 @@
 // The group's state: its rule, and what a message of its own service number does to it.
-ghost use mathlib.Core.Bool.{not, cond};
+ghost use mathlib.Core.Bool.{not, cond, _&&_};
 ghost use mathlib.Core.List.{List};
 ghost use mathlib.Core.Path.{_≡_};
 ghost use Prim.Native.Nat.{ℕ, _+_, _<_, _≤_};
 ghost use lib.Dec.{eqb};
 ghost use lib.ListN.{length};
 ghost use Rattle.answers.specs.Numbers.{numberOf};
-ghost use Rattle.channel.specs.Rules.{both};
 ghost use Rattle.group.specs.Answers.{refused, leaves, left};
 ghost use Rattle.group.specs.State.{idle, keepsRule, within, inStep, joinedOn};
 use crate::Group;
@@ -76,7 +75,7 @@ fn keeps_rule(group: Group) -> bool
 
 // Whether the state is as its phase has it and the message within its widths.
 pub(crate) fn within_rules(group: Group, message: Fields, length: usize) -> bool
-    ensures { λ r. ⌜ r ≡ both (keepsRule group) (within message length) ⌝ }
+    ensures { λ r. ⌜ r ≡ (keepsRule group && within message length) ⌝ }
 {
     if !keeps_rule(group) {
         return false;
@@ -95,7 +94,7 @@ pub(crate) fn within_rules(group: Group, message: Fields, length: usize) -> bool
 
 // Whether a message is of this group: its service number, and no COM.
 pub(crate) fn belongs(group: Group, message: Fields) -> bool
-    ensures { λ r. ⌜ r ≡ both (eqb (message .number) (group .number)) (not (message .command)) ⌝ }
+    ensures { λ r. ⌜ r ≡ (eqb (message .number) (group .number) && not (message .command)) ⌝ }
 {
     if message.number != group.number {
         return false;

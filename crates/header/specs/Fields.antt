@@ -45,6 +45,10 @@ header ws vs = withCheck (total ws) (packed ws vs)
 abbrev pub field : List ℕ → ℕ → ℕ → ℕ
 field widths i h = getD (fields widths (h / 64)) i 0
 
+-- whether a field of one bit is set, by its place
+abbrev pub flag : List ℕ → ℕ → ℕ → Bool
+flag widths i h = eqb (field widths i h) 1
+
 -- the check of a header that has n bits before it is right
 abbrev pub holds : ℕ → ℕ → Bool
 holds n h = eqb (check n (h / 64)) (h % 64)

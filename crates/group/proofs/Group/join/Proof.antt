@@ -1,11 +1,10 @@
 -- `Group::join` makes the tests in order, and joins the data on. Assumes nothing.
 use Prim.Native.Nat.{_*_, _≤_}
-use mathlib.Core.Bool.{true}
+use mathlib.Core.Bool.{true, and-eq-true-iff}
 use mathlib.Core.Path.{_≡_, sym, ap, _∙_}
 use native.Mathlib.Omega.{arith}
 use borrow.Author.Tests.{lt-leb, not-true, not-false}
 use lib.ListN.{length}
-use Rattle.channel.proofs.Laws.{both-true}
 use Rattle.group.specs.Answers.{refused, leaves}
 use Rattle.group.specs.State.{keepsRule, within}
 use Rattle.group.specs.declared.Group.{Group}
@@ -26,7 +25,7 @@ owned c = sym (c .before .belongs .ensures) ∙ not-false (c .before .belongs .r
 based : (c : tie.After-base) → let b = c .base .result in (b .held ≤ 255 * b .messages) × (b .ci ≤ 3)
 based c =
     let a = c .before .before .before .before .before .before .before .before .args in
-    let t = both-true (keepsRule (a .self)) (within (a .message) (length (a .«data» .now))) (ruled (c .before .before .before) .1) in
+    let t = and-eq-true-iff (keepsRule (a .self)) (within (a .message) (length (a .«data» .now))) .0 (ruled (c .before .before .before) .1) in
     base-room (a .self) (t .0) (a .message .first) (c .base .result) (c .base .ensures)
 
 refused-requires : tie.Need-refused-requires
@@ -101,7 +100,7 @@ join-on-requires c κs =
     let b = c .before .before .before .before .before in
     let f = ruled (b .before .before .before) in
     let a = b .before .before .before .before .before .before .before .before .args in
-    let t = both-true (keepsRule (a .self)) (within (a .message) (length (a .«data» .now))) (f .1) in
+    let t = and-eq-true-iff (keepsRule (a .self)) (within (a .message) (length (a .«data» .now))) .0 (f .1) in
     (c .before .if5 .left, omega (arith, based b .0, f .0, within-bounds (a .message) (length (a .«data» .now)) (t .1) .0, c .before .if5 .left))
 
 same-length : tie.Need-same-length

@@ -1,0 +1,14 @@
+-- Laws of tests in order. Assumes nothing.
+use mathlib.Core.Path.{_≡_, refl}
+use mathlib.Core.Bool.{Bool, true, false, _&&_}
+use Rattle.answers.specs.Rules.{unless}
+
+-- two tests with one answer are one test
+pub unless-and : {A : Type 0} (a b : Bool) (x y : A) → unless a x (unless b x y) ≡ unless (a && b) x y
+unless-and true b x y = refl
+unless-and false b x y = refl
+
+-- what holds on both sides of a test holds of it
+pub unless-elim : {A : Type 0} (P : A → Type 0) (b : Bool) (x y : A) → P x → (b ≡ true → P y) → P (unless b x y)
+unless-elim P true x y px py = py refl
+unless-elim P false x y px py = px
