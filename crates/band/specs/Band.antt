@@ -1,8 +1,9 @@
 -- Document 01, "The log and its report": channel numbers and kilohertz (000, table 9). Assumes nothing.
 use Prim.Native.Nat.{ℕ, _+_, _-_, _*_, _/_, _%_}
-use mathlib.Core.Bool.{Bool, cond, _&&_}
+use mathlib.Core.Bool.{Bool, _&&_}
 use lib.Dec.{leb, eqb}
 use Rattle.answers.specs.Numbers.{Paper, accepted, refused, paper}
+use Rattle.answers.specs.Rules.{unless}
 use Rattle.band.specs.declared.Channel.{Channel}
 use Rattle.band.specs.declared.Kilohertz.{Kilohertz}
 use Rattle.band.specs.declared.ChannelAnswer.{ChannelAnswer}
@@ -19,9 +20,9 @@ toldChannel r = record { answer = paper (r .answer); number = r .channel .0 }
 abbrev pub toldKilohertz : KilohertzAnswer → Told
 toldKilohertz r = record { answer = paper (r .answer); number = r .kilohertz .0 }
 
--- a number where the test holds, else 11 and 0
+-- 11 and 0 where a test fails, else a number
 abbrev pub only : Bool → ℕ → Told
-only test n = cond test (record { answer = accepted; number = n }) (record { answer = refused 11; number = 0 })
+only test n = unless test (record { answer = refused 11; number = 0 }) (record { answer = accepted; number = n })
 
 -- 1 to 204; 0 and 205 to 255 are reserved
 abbrev pub isChannel : ℕ → Bool

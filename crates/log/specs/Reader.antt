@@ -6,6 +6,7 @@ use lib.ListN.{take, drop, set, replicate}
 use lib.Dec.{ltb, leb, eqb}
 use Rattle.text.specs.Fields.{sameAs}
 use Rattle.answers.specs.Numbers.{Paper, accepted, refused, paper}
+use Rattle.answers.specs.Rules.{unless}
 use Rattle.band.specs.Band.{isChannel}
 use Rattle.log.specs.declared.Counts.{Counts}
 use Rattle.log.specs.declared.Judged.{Judged}
@@ -94,7 +95,9 @@ fedAt Ended s = fine s
 -- the first line is needed, and every line's line feed
 abbrev pub endedAt : Phase → Reader → ToldFed
 endedAt Open s =
-    cond (not (eqb (s .counts .channel) 0) && eqb (s .length) 0) (fine (between Ended (s .counts))) (badLine (between Refused (s .counts)))
+    unless (not (eqb (s .counts .channel) 0)) (badLine (between Refused (s .counts)))
+    (unless (eqb (s .length) 0) (badLine (between Refused (s .counts)))
+    (fine (between Ended (s .counts))))
 endedAt Refused s = badLine s
 endedAt Ended s = fine s
 
@@ -136,7 +139,7 @@ abbrev pub noReader : Reader → ToldFed
 noReader s = record { answer = refused 11; line = 0; reader = s }
 
 unfoldable pub fedOf : Reader → List ℕ → ToldFed
-fedOf s piece = cond (isReader s) (fedAt (run s piece .phase) (run s piece)) (noReader s)
+fedOf s piece = unless (isReader s) (noReader s) (fedAt (run s piece .phase) (run s piece))
 
 unfoldable pub endOf : Reader → ToldFed
-endOf s = cond (isReader s) (endedAt (s .phase) s) (noReader s)
+endOf s = unless (isReader s) (noReader s) (endedAt (s .phase) s)

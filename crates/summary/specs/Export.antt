@@ -5,6 +5,7 @@ use mathlib.Core.List.{List, [], _∷_, _++_}
 use lib.Dec.{eqb}
 use lib.Ieee.{Float, binary64, toBits}
 use lib.Ieee.Positive.{num, den}
+use Rattle.answers.specs.Rules.{unless}
 use Rattle.log.specs.declared.Counts.{Counts}
 use Rattle.log.specs.Decimal.{decimal}
 use Rattle.log.specs.Log.{tab, lineFeed, isCounts}
@@ -54,4 +55,6 @@ isSummary s t =
 -- 11 for counts that no accepted log gives, and for a record that is not their summary
 unfoldable pub exportedOf : Counts → Summary → List ℕ → Told
 exportedOf counts summary out =
-    cond (isCounts counts && isSummary summary (summaryOf counts)) (written (rowOf counts summary) out) (notWritten 11 out)
+    unless (isCounts counts) (notWritten 11 out)
+    (unless (isSummary summary (summaryOf counts)) (notWritten 11 out)
+    (written (rowOf counts summary) out))

@@ -5,6 +5,7 @@ use mathlib.Core.List.{List, [], _∷_, _++_}
 use lib.ListN.{length, drop}
 use lib.Dec.{leb, eqb}
 use Rattle.answers.specs.Numbers.{Paper, accepted, refused, paper}
+use Rattle.answers.specs.Rules.{unless}
 use Rattle.band.specs.Band.{kilohertzOf}
 use Rattle.log.specs.declared.Counts.{Counts}
 use Rattle.log.specs.Decimal.{decimal}
@@ -64,12 +65,12 @@ told r out = record { answer = paper (r .answer); length = r .length; out = out 
 abbrev pub notWritten : ℕ → List ℕ → Told
 notWritten number out = record { answer = refused number; length = 0; out = out }
 
--- the text stands at the start of the output, and the bytes after it stay; 10 for an output that is shorter
+-- 10 for an output that is shorter; else the text stands at its start, and the bytes after it stay
 abbrev pub written : List ℕ → List ℕ → Told
 written text out =
-    cond (leb (length text) (length out)) (record { answer = accepted; length = length text; out = text ++ drop (length text) out })
-    (notWritten 10 out)
+    unless (leb (length text) (length out)) (notWritten 10 out)
+    (record { answer = accepted; length = length text; out = text ++ drop (length text) out })
 
 -- 11 for counts that no accepted log gives
 unfoldable pub reportedOf : Counts → List ℕ → Told
-reportedOf counts out = cond (isCounts counts) (written (reportOf counts) out) (notWritten 11 out)
+reportedOf counts out = unless (isCounts counts) (notWritten 11 out) (written (reportOf counts) out)

@@ -5,6 +5,7 @@ use lib.Dec.{eqb}
 use lib.IntN.{pos}
 use lib.Ieee.{Float, binary64, ofInt, ofBits, div}
 use Rattle.answers.specs.Numbers.{Paper, accepted, refused, paper}
+use Rattle.answers.specs.Rules.{unless}
 use Rattle.log.specs.declared.Counts.{Counts}
 use Rattle.log.specs.Log.{isCounts}
 use Rattle.summary.specs.declared.Summary.{Summary}
@@ -47,4 +48,5 @@ told r = record { answer = paper (r .answer); summary = r .summary }
 -- counts that no accepted log gives are 11
 unfoldable pub summarisedOf : Counts → Told
 summarisedOf counts =
-    cond (isCounts counts) (record { answer = accepted; summary = summaryOf counts }) (record { answer = refused 11; summary = noSummary })
+    unless (isCounts counts) (record { answer = refused 11; summary = noSummary })
+    (record { answer = accepted; summary = summaryOf counts })
