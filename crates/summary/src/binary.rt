@@ -2,8 +2,6 @@
 // multiple is held in two numbers of 36 bits, for it does not fit one of 64.
 ghost use mathlib.Core.Path.{_≡_};
 ghost use Prim.Native.Nat.{_+_, _*_, _^_, _<_};
-ghost use lib.Ieee.{binary64};
-ghost use lib.Ieee.{toBits};
 ghost use lib.Ieee.Positive.{num, den};
 ghost use Rattle.summary.specs.Export.{sameBits, decimals, expansion, cell};
 ghost use Rattle.summary.specs.Building.{Grows, Measured, Scaled, scaled};
