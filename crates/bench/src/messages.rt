@@ -4,7 +4,7 @@ ghost use mathlib.Core.Path.{_≡_};
 ghost use Prim.Native.Nat.{_≤_};
 ghost use lib.ListN.{length};
 use crate::records;
-use channel::writer::Fields;
+use channel::Fields;
 use group::Group;
 use group::Step;
 

@@ -4,15 +4,13 @@ use mathlib.Core.Path.{_≡_, refl, sym, ap, _∙_}
 use mathlib.Core.List.{List}
 use native.Mathlib.Omega.{arith}
 use Rattle.answers.specs.Numbers.{numberOf}
-use Rattle.answers.proofs.Determined.{number-once, paper-once}
+use Rattle.answers.proofs.Determined.{number-once}
 use Rattle.channel.specs.Answers.{outcome, Left, paper}
 use Rattle.channel.specs.State.{fresh, stepOf}
-use Rattle.channel.specs.Writer.{Written, Writes}
 use Rattle.channel.specs.declared.Channel.{Channel}
 use Rattle.channel.specs.declared.Step.{Step}
 use Rattle.channel.specs.declared.Step.the-variants.{Taken, Message, Refused}
 use Rattle.channel.specs.declared.Stepped.{Stepped}
-use Rattle.channel.specs.declared.writer.Wrote.{Wrote}
 
 -- `Channel::new`
 pub new-once : (r s : Channel) → r ≡ fresh → s ≡ fresh → r ≡ s
@@ -36,10 +34,3 @@ step-once c information r s p q =
     let answer = outcome-once (r .answer) (s .answer) (ap (λ (l : Left). l .answer) e) in
     let channel = ap (λ (l : Left). l .channel) e in
     λ i. record { answer = answer i; channel = channel i }
-
--- `writer::write_message`: what it returns, and the output
-pub write-once : (w : Written) (before : List ℕ) (r s : Wrote) (x y : List ℕ) → Writes w r before x → Writes w s before y → (r ≡ s) × (x ≡ y)
-write-once w before r s x y p q =
-    let answer = paper-once (r .answer) (s .answer) (p .answer ∙ sym (q .answer)) in
-    let blocks = p .blocks ∙ sym (q .blocks) in
-    (λ i. record { answer = answer i; blocks = blocks i }, p .output ∙ sym (q .output))

@@ -1,15 +1,17 @@
 -- Laws that several proofs of this crate cite. Assumes nothing.
 use Prim.Native.Nat.{ℕ, _+_, _-_, _%_, _^_, _≤_, _<_}
-use mathlib.Core.Path.{_≡_, ap, _∙_}
-use mathlib.Core.Bool.{Bool, true, false, _&&_, and-eq-true-iff}
+use mathlib.Core.Path.{_≡_, sym, ap, _∙_}
+use mathlib.Core.Bool.{true, _&&_, and-eq-true-iff}
+use mathlib.Core.List.{List, _++_, append-assoc}
 use native.Mathlib.Omega.{arith}
-use borrow.Author.Tests.{eqb-true, leb-true, le-leb}
+use borrow.Author.Tests.{eqb-true, leb-true}
+use borrow.Rule.Slice.PartMut.{putMid}
 use lib.Dec.{eqb, leb}
+use lib.ListN.{length, take, drop}
+use lib.Seq.{paste, drop-drop}
+use Rattle.gf2.proofs.Lists.{tail-lent, tail-back}
 use Rattle.header.specs.Check.{check}
-use Rattle.header.proofs.Bits.{check-wider, check-fits}
-use Rattle.channel.specs.Layer4.{sizeOf}
-use Rattle.channel.specs.Writer.{within}
-use Rattle.channel.specs.declared.writer.Fields.{Fields}
+use Rattle.header.proofs.Bits.{check-wider}
 use Rattle.channel.specs.State.{keepsRule, phaseHolds}
 use Rattle.channel.specs.declared.Channel.{Channel}
 use Rattle.channel.specs.declared.Phase.{Phase}
@@ -38,33 +40,13 @@ module _ (c : Channel) (e : keepsRule c ≡ true) where
 pub check-at : (n x : ℕ) → n ≤ 64 → x < 2 ^ n → check 64 x ≡ check n x
 check-at n x h l = let e : 64 ≡ n + (64 - n) = omega arith in ap (λ (m : ℕ). check m x) e ∙ check-wider n (64 - n) x l
 
-pub check-small : (x k : ℕ) → k ≡ check 64 x → k < 64
-check-small x k e = rw e (check-fits 64 x)
-
--- what the writer takes
-pub within-widths : (m : Fields) (sc d : ℕ) → within m sc d ≡ true → (m .ri < 4) × (m .ci < 4) × (m .number < 16384) × (sc < 16) × (d ≤ 255)
-unfolding within
-within-widths m sc d e =
-    let a = leb (m .ri) 3 in
-    let b = leb (m .ci) 3 in
-    let n = leb (m .number) 16383 in
-    let s = leb sc 15 in
-    let l = leb d 255 in
-    let t = and-eq-true-iff (a && b && n && s) l .0 e in
-    let u = and-eq-true-iff (a && b && n) s .0 (t .0) in
-    let v = and-eq-true-iff (a && b) n .0 (u .0) in
-    let w = and-eq-true-iff a b .0 (v .0) in
-    omega (arith, leb-true (m .ri) 3 (w .0), leb-true (m .ci) 3 (w .1), leb-true (m .number) 16383 (v .1), leb-true sc 15 (u .1), leb-true d 255 (t .1))
-
-pub within-true : (m : Fields) (sc d : ℕ) → m .ri < 4 → m .ci < 4 → m .number < 16384 → sc < 16 → d ≤ 255 → within m sc d ≡ true
-unfolding within
-within-true m sc d r c n s l =
-    let a : m .ri ≤ 3 = omega arith in
-    let b : m .ci ≤ 3 = omega arith in
-    let e : m .number ≤ 16383 = omega arith in
-    let f : sc ≤ 15 = omega arith in
-    simp (le-leb _ _ a, le-leb _ _ b, le-leb _ _ e, le-leb _ _ f, le-leb _ _ l)
-
-pub size-room : (ext : Bool) → (sizeOf ext ≤ 5) × (4 ≤ sizeOf ext)
-size-room true = omega arith
-size-room false = omega arith
+-- the part from a place on, lent to a copy and given back; n is the length of the whole
+pub copied : (buffer s filled : List ℕ) (at n : ℕ) → n ≡ length buffer → filled ≡ take (length s) s ++ drop (length s) (take (n - at) (drop at buffer))
+    → putMid at (n - at) buffer filled ≡ paste buffer at s (length s)
+copied buffer s filled at n l e =
+    let k = length s in
+    let front : putMid at (n - at) buffer filled ≡ take at buffer ++ filled = rw l (tail-back buffer filled at) in
+    let rest : drop k (take (n - at) (drop at buffer)) ≡ drop (at + k) buffer = rw l (ap (drop k) (tail-lent buffer at) ∙ drop-drop k at buffer) in
+    front
+    ∙ ap (λ (r : List ℕ). take at buffer ++ r) (e ∙ ap (λ (r : List ℕ). take k s ++ r) rest)
+    ∙ sym (append-assoc (take at buffer) (take k s) (drop (at + k) buffer))

@@ -3,10 +3,5 @@ pub mod Laws
 pub mod Headers
 pub mod Messages
 pub mod Steps
-pub mod Writing
-pub mod HeaderBack
-pub mod ReadBack
 pub mod Rule
 pub mod Determined
-pub mod MessageAgain
-pub mod WrittenAgain

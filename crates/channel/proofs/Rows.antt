@@ -1,17 +1,13 @@
--- Rows of bytes: one turn of each loop over them, and copies. Assumes nothing.
-use Prim.Native.Nat.{ℕ, zero, suc, _+_, _-_, _*_, _/_, _%_, _^_, _≤_, _<_}
-use mathlib.Core.Path.{_≡_, sym, ap, _∙_, subst}
-use mathlib.Core.List.{List, [], _∷_, _++_}
+-- A header from its bytes: one turn of the loop over them. Assumes nothing.
+use Prim.Native.Nat.{ℕ, suc, _+_, _-_, _*_, _^_, _≤_, _<_}
+use mathlib.Core.Path.{_≡_, sym, ap, _∙_}
+use mathlib.Core.List.{List, _∷_}
 use native.Mathlib.Nat.{pow-le-pow-right}
 use native.Mathlib.Omega.{arith}
-use lib.ListN.{length, getD, set, take, drop, replicate}
+use lib.ListN.{length, getD, drop, replicate}
 use lib.Pow.{pow-add}
 use Rattle.gf2.proofs.Lists.{drop-one}
-use Rattle.header.specs.Fields.{total, behind, bytesOf}
-use Rattle.header.proofs.Bits.{fill-turn}
-use Rattle.header.proofs.Fields.{total-bytes}
-
--- ---- a header from its bytes
+use Rattle.header.specs.Fields.{behind}
 
 next-power : (i : ℕ) → 2 ^ (8 * (i + 1)) ≡ 2 ^ (8 * i) * 256
 next-power i = let e : 8 * (i + 1) ≡ 8 * i + 8 = omega arith in rw e (pow-add 2 (8 * i) 8)
@@ -31,15 +27,3 @@ pub number-end : (bytes : List ℕ) (whole h i : ℕ) → length bytes ≤ i →
 number-end bytes whole h i l inv =
     let none : length bytes - i ≡ 0 = omega arith in
     sym (ap (λ (n : ℕ). behind h (replicate n 8) (drop i bytes)) none) ∙ inv
-
--- ---- bytes of a header
-
-pub bytes-turn : (row whole : List ℕ) (h i left : ℕ) → i < length row → 0 < left → take i row ++ bytesOf left h ≡ whole
-    → take (i + 1) (set row i (h / 2 ^ (8 * (left - 1)) % 256)) ++ bytesOf (left - 1) h ≡ whole
-bytes-turn row whole h i zero l p e = absurd (omega arith)
-bytes-turn row whole h i (suc k) l p e =
-    let less : suc k - 1 ≡ k = omega arith in
-    rw (less, ← total-bytes k) (fill-turn row (bytesOf k h) whole i (h / 2 ^ total (replicate k 8) % 256) l e)
-
-pub bytes-end : (row whole : List ℕ) (h i left : ℕ) → left ≡ 0 → take i row ++ bytesOf left h ≡ whole → take i row ++ [] ≡ whole
-bytes-end row whole h i left z e = subst (λ (n : ℕ). take i row ++ bytesOf n h ≡ whole) z e

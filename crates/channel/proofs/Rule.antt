@@ -4,7 +4,7 @@ use mathlib.Core.Path.{_≡_, refl}
 use mathlib.Core.Bool.{Bool, true, false}
 use mathlib.Core.List.{List}
 use native.Mathlib.Omega.{arith}
-use borrow.Author.Tests.{ltb-true}
+use borrow.Author.Tests.{eq-eqb, le-leb, ltb-true}
 use lib.Dec.{eqb, ltb}
 use lib.ListN.{length, drop}
 use lib.Seq.{paste}
@@ -12,12 +12,25 @@ use Rattle.answers.proofs.Rules.{unless-elim}
 use Rattle.header.specs.Fields.{field, holds}
 use Rattle.channel.specs.Answers.{Left}
 use Rattle.channel.specs.Layer3.{layer3, headerOf, lfOf, scOf}
-use Rattle.channel.specs.State.{fresh, keepsRule, asWaiting, joined, followed, inPhase, advanced, stepOf}
+use Rattle.channel.specs.State.{channelOf, fresh, keepsRule, asWaiting, joined, followed, inPhase, advanced, stepOf}
 use Rattle.channel.specs.declared.Channel.{Channel}
 use Rattle.channel.specs.declared.Phase.{Phase}
 use Rattle.channel.specs.declared.Phase.the-variants.{Waiting, Ready, Gathering}
 use Rattle.channel.proofs.Laws.{rule-bytes}
-use Rattle.channel.proofs.ReadBack.{next-rule, ready-rule}
+
+-- the state that a block without LF leaves keeps the rule
+pub next-rule : (bytes : List ℕ) (n sc : ℕ) → n + 20 ≤ 260 → n % 20 ≡ 0 → keepsRule (channelOf bytes (n + 20) Gathering ((sc + 1) % 16)) ≡ true
+unfolding keepsRule
+next-rule bytes n sc h k =
+    let a : (sc + 1) % 16 ≤ 15 = omega arith in
+    let b : 20 ≤ n + 20 = omega arith in
+    let d : (n + 20) % 20 ≡ 0 = omega arith in
+    simp (le-leb _ _ a, le-leb _ _ b, le-leb _ _ h, eq-eqb _ _ d)
+
+-- and the state that one with LF leaves
+pub ready-rule : (bytes : List ℕ) (sc : ℕ) → keepsRule (channelOf bytes 0 Ready (sc % 16)) ≡ true
+unfolding keepsRule
+ready-rule bytes sc = let a : sc % 16 ≤ 15 = omega arith in simp (le-leb _ _ a)
 
 abbrev Kept : Left → Type 0
 Kept l = keepsRule (l .channel) ≡ true

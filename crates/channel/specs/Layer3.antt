@@ -2,10 +2,9 @@
 -- The twenty data bytes start at the third byte of the information. Assumes nothing.
 use Prim.Native.Nat.{ℕ}
 use mathlib.Core.Bool.{Bool}
-use mathlib.Core.List.{List, [], _∷_, _++_}
+use mathlib.Core.List.{List, [], _∷_}
 use lib.ListN.{take}
-use Rattle.header.specs.Check.{bit}
-use Rattle.header.specs.Fields.{field, flag, header, bytesOf, numberOf}
+use Rattle.header.specs.Fields.{field, flag, numberOf}
 
 abbrev pub layer3 : List ℕ
 layer3 = 4 ∷ 1 ∷ 1 ∷ 4 ∷ []
@@ -19,7 +18,3 @@ lfOf h = flag layer3 2 h
 
 abbrev pub scOf : ℕ → ℕ
 scOf h = field layer3 3 h
-
--- a block as it is written
-unfoldable pub blockOf : Bool → Bool → ℕ → List ℕ → List ℕ
-blockOf di lf sc twenty = bytesOf 2 (header layer3 (10 ∷ bit di ∷ bit lf ∷ sc ∷ [])) ++ twenty

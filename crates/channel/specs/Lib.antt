@@ -2,5 +2,3 @@ pub mod Answers
 pub mod Layer3
 pub mod Layer4
 pub mod State
-pub mod Writer
-pub mod Reading

@@ -57,7 +57,7 @@ fn header_at(bytes: &[u8]) -> Opened
 }
 
 // The bytes of a header.
-pub(crate) fn size_of(ext: bool) -> usize
+fn size_of(ext: bool) -> usize
     ensures { λ r. ⌜ (r ≡ sizeOf ext) × (4 ≤ r) × (r ≤ 5) ⌝ }
 {
     if ext { 5 } else { 4 }

@@ -1,5 +1,5 @@
 // The long message channel of document 01, layers 3 and 4: a channel state takes information blocks of 22 bytes and
-// gives messages, and the message writer gives the blocks of a message.
+// gives messages.
 ghost use mathlib.Core.Path.{_≡_};
 ghost use Rattle.channel.specs.Answers.{paper};
 ghost use Rattle.channel.specs.State.{fresh, stepOf};
@@ -7,7 +7,6 @@ ghost use Rattle.channel.specs.State.{fresh, stepOf};
 mod layer4;
 mod row;
 mod state;
-pub mod writer;
 
 use answers::Refusal;
 
@@ -17,6 +16,11 @@ pub const INFORMATION_BYTES: usize = 22;
 pub const DATA_BYTES: usize = 20;
 
 pub const MESSAGE_BYTES: usize = 260;
+
+// The greatest service number, and the most data of a message.
+pub const LAST_NUMBER: u16 = 16383;
+
+pub const MESSAGE_DATA: usize = 255;
 
 pub enum Phase {
     Waiting,
@@ -44,6 +48,17 @@ pub struct Header {
     pub command: bool,
     pub length: usize,
     pub size: usize,
+}
+
+// The fields of a message that a group joins and the writers take: EXT follows from the number, the data length from
+// the data.
+pub struct Fields {
+    pub ri: u8,
+    pub ci: u8,
+    pub first: bool,
+    pub last: bool,
+    pub number: u16,
+    pub command: bool,
 }
 
 pub enum Step {

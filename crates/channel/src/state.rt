@@ -14,7 +14,6 @@ use crate::Phase;
 use crate::Step;
 use crate::Stepped;
 use crate::layer4;
-use crate::row;
 use answers::Refusal;
 
 pub(crate) fn refused(refusal: Refusal, left: Channel) -> Stepped
@@ -110,7 +109,7 @@ fn join(bytes: [u8; MESSAGE_BYTES], at: usize, twenty: &[u8]) -> [u8; MESSAGE_BY
     ensures { λ r. ⌜ r ≡ paste bytes at (now (twenty .entry)) 20 ⌝ }
 {
     let mut joined = bytes;
-    row::put(twenty, &mut joined, at);
+    bytes::copy(twenty, &mut joined[at..]);
     joined
 }
 

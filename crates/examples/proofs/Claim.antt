@@ -19,8 +19,8 @@ use Rattle.channel.specs.Answers as channel
 use Rattle.channel.specs.Answers.{Left, leaves}
 use Rattle.channel.specs.Layer4.{sizeOf, blocksFor}
 use Rattle.channel.specs.State.{channelOf, fresh, keepsRule, asWaiting, advanced, stepOf}
-use Rattle.channel.specs.Writer.{headerFor, blocksOf, messageBytes, messageBlocks}
-use Rattle.channel.proofs.Writing.{length-cut}
+use Rattle.writer.specs.Message.{headerFor, blocksOf, messageBytes, messageBlocks}
+use Rattle.writer.proofs.Writing.{length-cut}
 use Rattle.answers.specs.Numbers.{accepted}
 use Rattle.band.specs.Band.{Told, kilohertzOf}
 use Rattle.examples.specs.Table.{header, khz, reserved, blocks, word, noWord, wrongCheck, Holds, AllHold, zeros, generatorBlock, tenCleared, nineCleared, table}

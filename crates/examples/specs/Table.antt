@@ -14,11 +14,11 @@ use Rattle.block.specs.Blocks.{Reads}
 use Rattle.channel.specs.declared.Phase.{Phase}
 use Rattle.channel.specs.declared.Phase.the-variants.{Waiting, Ready}
 use Rattle.channel.specs.declared.Stepped.{Stepped}
-use Rattle.channel.specs.declared.writer.Fields.{Fields}
+use Rattle.channel.specs.declared.Fields.{Fields}
 use Rattle.channel.specs.Answers as channel
 use Rattle.channel.specs.Answers.{outcome}
 use Rattle.channel.specs.State.{fresh, stepOf}
-use Rattle.channel.specs.Writer.{messageBlocks}
+use Rattle.writer.specs.Message.{messageBlocks}
 use Rattle.band.specs.declared.KilohertzAnswer.{KilohertzAnswer}
 use Rattle.band.specs.declared.ChannelAnswer.{ChannelAnswer}
 use Rattle.band.specs.Band.{toldKilohertz, kilohertzOf, toldChannel, numberedOf}

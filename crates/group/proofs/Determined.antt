@@ -5,20 +5,15 @@ use mathlib.Core.List.{List}
 use native.Mathlib.Omega.{arith}
 use Rattle.answers.specs.Numbers.{numberOf, paper}
 use Rattle.answers.proofs.Determined.{number-once, paper-once}
-use Rattle.channel.specs.Writer.{Writes}
-use Rattle.channel.specs.declared.writer.Fields.{Fields}
-use Rattle.channel.specs.declared.writer.Wrote.{Wrote}
-use Rattle.channel.proofs.Determined.{write-once}
+use Rattle.channel.specs.declared.Fields.{Fields}
 use Rattle.group.specs.Answers.{outcome, Left, left, made}
 use Rattle.group.specs.Answers as answers
 use Rattle.group.specs.State.{newOf, joinOf}
-use Rattle.group.specs.Writer.{writeOf}
 use Rattle.group.specs.declared.Group.{Group}
 use Rattle.group.specs.declared.Made.{Made}
 use Rattle.group.specs.declared.Step.{Step}
 use Rattle.group.specs.declared.Step.the-variants.{Taken, Whole, Refused}
 use Rattle.group.specs.declared.Stepped.{Stepped}
-use Rattle.group.specs.declared.writer.Series.{Series}
 
 -- `Group::new`
 pub new-once : (number : ℕ) (r s : Made) → made (paper (r .answer)) (r .group) ≡ newOf number → made (paper (s .answer)) (s .group) ≡ newOf number → r ≡ s
@@ -46,7 +41,3 @@ join-once g m s buffer r t x y p q =
     let answer = outcome-once (r .answer) (t .answer) (ap (λ (l : Left). l .answer) e) in
     let group = ap (λ (l : Left). l .group) e in
     (λ i. record { answer = answer i; group = group i }, ap (λ (l : Left). l .buffer) e)
-
--- `writer::write_group`: what it returns, and the output
-pub write-group-once : (series : Series) (s before : List ℕ) (room : ℕ) (r t : Wrote) (x y : List ℕ) → Writes (writeOf series s room) r before x → Writes (writeOf series s room) t before y → (r ≡ t) × (x ≡ y)
-write-group-once series s before room = write-once (writeOf series s room) before

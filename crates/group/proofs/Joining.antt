@@ -9,7 +9,7 @@ use lib.Dec.{eqb, leb, ltb}
 use lib.ListN.{length}
 use Rattle.answers.specs.Rules.{unless}
 use Rattle.answers.proofs.Rules.{unless-and}
-use Rattle.channel.specs.declared.writer.Fields.{Fields}
+use Rattle.channel.specs.declared.Fields.{Fields}
 use Rattle.group.specs.Answers.{refused, Left, leaves}
 use Rattle.group.specs.State.{idle, phaseHolds, keepsRule, within, inStep, joinedOn, followed, joinOf}
 use Rattle.group.specs.declared.Group.{Group}

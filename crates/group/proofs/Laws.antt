@@ -1,16 +1,11 @@
--- Tests taken apart, the rules of a state and of a message as bounds, and the copy. Assumes nothing.
-use Prim.Native.Nat.{ℕ, _+_, _-_, _*_, _≤_}
-use mathlib.Core.Path.{_≡_, refl, sym, ap, _∙_}
+-- Tests taken apart, and the rules of a state and of a message as bounds. Assumes nothing.
+use Prim.Native.Nat.{ℕ, _*_, _≤_}
+use mathlib.Core.Path.{_≡_, refl}
 use mathlib.Core.Bool.{Bool, true, false, cond, _&&_, and-eq-true-iff}
-use mathlib.Core.List.{List, _++_, append-assoc}
 use native.Mathlib.Omega.{arith}
 use borrow.Author.Tests.{eqb-true, leb-true}
-use borrow.Rule.Slice.PartMut.{putMid}
 use lib.Dec.{eqb, leb}
-use lib.ListN.{length, take, drop}
-use lib.Seq.{paste, drop-drop}
-use Rattle.gf2.proofs.Lists.{tail-lent, tail-back}
-use Rattle.channel.specs.declared.writer.Fields.{Fields}
+use Rattle.channel.specs.declared.Fields.{Fields}
 use Rattle.group.specs.State.{phaseHolds, keepsRule, within}
 use Rattle.group.specs.declared.Group.{Group}
 use Rattle.group.specs.declared.Phase.{Phase}
@@ -45,13 +40,3 @@ within-bounds m d e =
     let t = and-eq-true-iff (n && leb d 255 && leb (m .ri) 3) (leb (m .ci) 3) .0 e in
     let u = and-eq-true-iff (n && leb d 255) (leb (m .ri) 3) .0 (t .0) in
     (leb-true d 255 (and-eq-true-iff n (leb d 255) .0 (u .0) .1), leb-true (m .ci) 3 (t .1))
-
--- the part from a place on, lent to a copy and given back
-pub copied : (buffer s filled : List ℕ) (at : ℕ) → filled ≡ take (length s) s ++ drop (length s) (take (length buffer - at) (drop at buffer))
-    → putMid at (length buffer - at) buffer filled ≡ paste buffer at s (length s)
-copied buffer s filled at e =
-    let n = length s in
-    let rest : drop n (take (length buffer - at) (drop at buffer)) ≡ drop (at + n) buffer = ap (drop n) (tail-lent buffer at) ∙ drop-drop n at buffer in
-    tail-back buffer filled at
-    ∙ ap (λ (r : List ℕ). take at buffer ++ r) (e ∙ ap (λ (r : List ℕ). take n s ++ r) rest)
-    ∙ sym (append-assoc (take at buffer) (take n s) (drop (at + n) buffer))

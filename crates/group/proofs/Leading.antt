@@ -8,11 +8,10 @@ use borrow.Author.Tests.{leb-true}
 use lib.Dec.{eqb, leb, ltb}
 use lib.ListN.{length, take, replicate, length-append}
 use lib.Seq.{paste, take-paste, take-length, length-take-le}
-use Rattle.channel.specs.declared.writer.Fields.{Fields}
+use Rattle.channel.specs.declared.Fields.{Fields}
 use Rattle.group.specs.Answers.{Outcome, taken, refused, Left}
 use Rattle.group.specs.State.{idle, keepsRule, within, joinedOn, followed, joinOf}
-use Rattle.group.specs.Writer.{Message}
-use Rattle.group.specs.Reading.{answersTo, groupAfter, bufferAfter, joined, Later, Leads}
+use Rattle.group.specs.Leading.{Message, answersTo, groupAfter, bufferAfter, joined, Later, Leads}
 use Rattle.group.specs.declared.Group.{Group}
 use Rattle.group.specs.declared.Phase.{Phase}
 use Rattle.group.specs.declared.Phase.the-variants.{Idle, Gathering}

@@ -7,7 +7,7 @@ use native.Mathlib.Omega.{arith}
 use borrow.Author.Tests.{le-leb, leb-true, ltb-true}
 use lib.Dec.{eqb, leb, ltb}
 use lib.ListN.{length}
-use Rattle.channel.specs.declared.writer.Fields.{Fields}
+use Rattle.channel.specs.declared.Fields.{Fields}
 use Rattle.answers.proofs.Rules.{unless-elim}
 use Rattle.group.specs.Answers.{Left, Made}
 use Rattle.group.specs.State.{groupOf, idle, newOf, phaseHolds, keepsRule, within, joinedOn, followed, joinOf}

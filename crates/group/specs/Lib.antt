@@ -1,4 +1,3 @@
 pub mod Answers
 pub mod State
-pub mod Writer
-pub mod Reading
+pub mod Leading

@@ -8,7 +8,7 @@ use lib.Seq.{paste}
 use Rattle.answers.specs.Numbers.{accepted}
 use Rattle.answers.specs.Numbers as numbers
 use Rattle.answers.specs.Rules.{unless}
-use Rattle.channel.specs.declared.writer.Fields.{Fields}
+use Rattle.channel.specs.declared.Fields.{Fields}
 use Rattle.group.specs.Answers.{taken, whole, refused, Left, leaves, Made, made}
 use Rattle.group.specs.declared.Group.{Group}
 use Rattle.group.specs.declared.Phase.{Phase}

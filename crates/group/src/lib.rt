@@ -1,21 +1,16 @@
 // Groups of document 01: a group state joins the data of up to fifteen messages of one service number in a lent
-// buffer, and the group writer gives the blocks of a whole group.
+// buffer.
 ghost use mathlib.Core.Path.{_≡_};
 ghost use Rattle.answers.specs.Numbers.{paper};
 ghost use Rattle.group.specs.Answers.{made, left};
 ghost use Rattle.group.specs.State.{newOf, joinOf};
 
 mod state;
-pub mod writer;
 
 use answers::Answer;
 use answers::Refusal;
-use channel::writer::Fields;
-
-// The greatest service number, and the most data of a message.
-pub(crate) const LAST_NUMBER: u16 = 16383;
-
-pub(crate) const MESSAGE_DATA: usize = 255;
+use channel::Fields;
+use channel::LAST_NUMBER;
 
 pub enum Phase {
     Idle,

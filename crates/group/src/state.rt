@@ -9,13 +9,13 @@ ghost use Rattle.answers.specs.Numbers.{numberOf};
 ghost use Rattle.group.specs.Answers.{refused, leaves, left};
 ghost use Rattle.group.specs.State.{idle, keepsRule, within, inStep, joinedOn};
 use crate::Group;
-use crate::LAST_NUMBER;
-use crate::MESSAGE_DATA;
 use crate::Phase;
 use crate::Step;
 use crate::Stepped;
 use answers::Refusal;
-use channel::writer::Fields;
+use channel::Fields;
+use channel::LAST_NUMBER;
+use channel::MESSAGE_DATA;
 
 pub(crate) fn idle(number: u16) -> Group
     ensures { λ r. ⌜ r ≡ idle number ⌝ }

@@ -6,7 +6,7 @@ use crate::told::Told;
 use group::Group;
 use group::Phase;
 use group::Step;
-use group::writer::Series;
+use writer::Series;
 
 pub(crate) fn new_group(numbers: Numbers) -> Told {
     let wide = numbers.wide;
@@ -130,7 +130,7 @@ fn series_in(numbers: Numbers) -> Series {
 }
 
 pub(crate) fn write_group(numbers: Numbers, data: &[u8], output: &mut [u8]) -> Told {
-    let wrote = group::writer::write_group(series_in(numbers), data, output);
+    let wrote = writer::write_group(series_in(numbers), data, output);
     let answer = wrote.answer;
     told::answered(8, answer, wrote.blocks as u64)
 }

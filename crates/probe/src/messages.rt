@@ -5,10 +5,10 @@ use crate::put;
 use crate::told;
 use crate::told::Told;
 use channel::Channel;
+use channel::Fields;
 use channel::Header;
 use channel::Phase;
 use channel::Step;
-use channel::writer::Fields;
 
 pub(crate) fn new_channel(room: &mut [u8]) -> Told {
     let channel = Channel::new();
@@ -145,7 +145,7 @@ pub(crate) fn fields_at(numbers: Numbers, first: usize) -> Fields
 pub(crate) fn write_message(numbers: Numbers, data: &[u8], output: &mut [u8]) -> Told {
     let fields = fields_at(numbers, 0);
     let small = numbers.small;
-    let wrote = channel::writer::write_message(fields, small[6] == 1, small[7], data, output);
+    let wrote = writer::write_message(fields, small[6] == 1, small[7], data, output);
     let answer = wrote.answer;
     told::answered(5, answer, wrote.blocks as u64)
 }

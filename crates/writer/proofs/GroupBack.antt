@@ -1,0 +1,203 @@
+-- WHAT THE GROUP WRITER WRITES READS BACK: through a ready channel that expects the starting SC, and each message through a group state of that number.
+-- Assumes nothing.
+use Prim.Native.Nat.{ℕ, zero, suc, _+_, _-_, _*_, _/_, _%_, _≤_, _<_}
+use mathlib.Core.Path.{_≡_, refl, sym, ap, ap₂, _∙_, subst}
+use mathlib.Core.Bool.{Bool, true, false, _&&_}
+use mathlib.Core.List.{List, [], _∷_, _++_, append-assoc}
+use native.Mathlib.Numerals.{add-one}
+use native.Mathlib.Omega.{arith}
+use borrow.Author.Tests.{eq-eqb, le-leb}
+use lib.Dec.{eqb, leb, eqb·suc-zero}
+use lib.ListN.{length, take, drop, replicate, length-append, length-take, length-drop, take-append-drop}
+use lib.Seq.{paste, length-paste, take-all}
+use Rattle.channel.specs.Answers as channel
+use Rattle.channel.specs.Layer4.{sizeOf, blocksFor}
+use Rattle.writer.specs.Reading.{answersOf, channelAfter, Listens, messageIn, handOn, messagesRead, GroupBack}
+use Rattle.channel.specs.State.{stepOf}
+use Rattle.writer.specs.Message.{headerFor, messageBlocks}
+use Rattle.channel.specs.declared.Channel.{Channel}
+use Rattle.channel.specs.declared.Header.{Header}
+use Rattle.channel.proofs.Laws.{rule-sc}
+use Rattle.writer.proofs.ReadBack.{read-back, after-append}
+use Rattle.group.specs.Answers.{Outcome, taken, whole, Left, leaves}
+use Rattle.group.specs.State.{groupOf, idle, keepsRule, within, joinedOn, joinOf}
+use Rattle.group.specs.Leading.{Message, answersTo, groupAfter, bufferAfter}
+use Rattle.writer.specs.Group.{groupFields, messagesOf, blocksOf, groupBlocks}
+use Rattle.writer.specs.Group as groups
+use Rattle.group.specs.declared.Group.{Group}
+use Rattle.group.specs.declared.Phase.the-variants.{Gathering}
+use Rattle.writer.specs.declared.Series.{Series}
+use Rattle.group.proofs.Joining.{joins}
+use Rattle.writer.proofs.GroupWriting.{message-count, series-bounds, message-within, full-messages}
+use Rattle.group.proofs.Rule.{gathering-rule}
+use Rattle.group.proofs.Leading.{front}
+
+-- ---- the channel: blocks to messages
+
+handed-append : (o : channel.Outcome) (c : Channel) (xs ys : List Message) → handOn o c (xs ++ ys) ≡ handOn o c xs ++ ys
+handed-append channel.taken c xs ys = refl
+handed-append (channel.message h) c xs ys = refl
+handed-append (channel.refused n) c xs ys = refl
+
+read-append : (c : Channel) (xs ys : List (List ℕ)) → messagesRead c (xs ++ ys) ≡ messagesRead c xs ++ messagesRead (channelAfter c xs) ys
+read-append c [] ys = refl
+read-append c (x ∷ xs) ys =
+    let l = stepOf c x in
+    ap (handOn (l .answer) (l .channel)) (read-append (l .channel) xs ys) ∙ handed-append (l .answer) (l .channel) (messagesRead (l .channel) xs) (messagesRead (channelAfter (l .channel) xs) ys)
+
+no-blocks : (c : Channel) (blocks : List (List ℕ)) → answersOf c blocks ≡ [] → blocks ≡ []
+no-blocks c [] e = refl
+no-blocks c (b ∷ blocks) e = let z : _≡_ {A = ℕ} 0 1 = cc in absurd (omega arith)
+
+-- "taken" .. "message" is one message
+one-read : (n : ℕ) (h : Header) (c : Channel) (blocks : List (List ℕ)) → answersOf c blocks ≡ replicate n channel.taken ++ (channel.message h ∷ [])
+    → messagesRead c blocks ≡ messageIn h (channelAfter c blocks) ∷ []
+one-read zero h c [] e = let z : _≡_ {A = ℕ} 0 1 = cc in absurd (omega arith)
+one-read (suc n) h c [] e = let z : _≡_ {A = ℕ} 0 1 = cc in absurd (omega arith)
+one-read zero h c (b ∷ blocks) e =
+    let l = stepOf c b in
+    let is : l .answer ≡ channel.message h = cc in
+    let rest : answersOf (l .channel) blocks ≡ [] = cc in
+    subst (λ (bs : List (List ℕ)). handOn (l .answer) (l .channel) (messagesRead (l .channel) bs) ≡ messageIn h (channelAfter (l .channel) bs) ∷ []) (sym (no-blocks (l .channel) blocks rest))
+    (ap (λ (o : channel.Outcome). handOn o (l .channel) []) is)
+one-read (suc n) h c (b ∷ blocks) e =
+    let l = stepOf c b in
+    let is : l .answer ≡ channel.taken = cc in
+    let rest : answersOf (l .channel) blocks ≡ replicate n channel.taken ++ (channel.message h ∷ []) = cc in
+    ap (λ (o : channel.Outcome). handOn o (l .channel) (messagesRead (l .channel) blocks)) is ∙ one-read n h (l .channel) blocks rest
+
+module _ (number ri : ℕ) (di : Bool) (small-number : number ≤ 16383) (small-ri : ri ≤ 3) where
+  -- the blocks of messages are read as these messages, and the channel expects the SC after the last block's
+  series-read : (k : ℕ) (first : Bool) (ci : ℕ) (s : List ℕ) (c : Channel) → ci ≤ 3 → Listens c
+      → (messagesRead c (blocksOf di (c .expected) (messagesOf k first number ri ci s)) ≡ messagesOf k first number ri ci s)
+      × Listens (channelAfter c (blocksOf di (c .expected) (messagesOf k first number ri ci s)))
+      × (channelAfter c (blocksOf di (c .expected) (messagesOf k first number ri ci s)) .expected ≡ (c .expected + length (blocksOf di (c .expected) (messagesOf k first number ri ci s))) % 16)
+  series-read zero first ci s c hc l = (refl, l, omega (arith, rule-sc c (l .rule)))
+  series-read (suc k) first ci s c hc l =
+      let m = groupFields number ri ci first (eqb k 0) in
+      let part = take 255 s in
+      let few : length part ≤ 255 = omega (arith, length-take 255 s) in
+      let sc = c .expected in
+      let B = messageBlocks m di sc part in
+      let small = rule-sc c (l .rule) in
+      let R = read-back m di part c l (message-within number ri ci sc (length part) first (eqb k 0) small-number small-ri hc (omega arith) few) in
+      let c₁ = channelAfter c B in
+      let n = message-count m di sc part in
+      let e : (sc + length B) % 16 ≡ c₁ .expected = ap (λ (i : ℕ). (sc + i) % 16) n ∙ sym (R .expected) in
+      let messages = messagesOf k false number ri ((ci + 1) % 4) (drop 255 s) in
+      let G = blocksOf di ((sc + length B) % 16) messages in
+      let same : G ≡ blocksOf di (c₁ .expected) messages = ap (λ (i : ℕ). blocksOf di i messages) e in
+      let ih = series-read k false ((ci + 1) % 4) (drop 255 s) c₁ (omega arith) (R .listens) in
+      let one : messagesRead c B ≡ record { fields = m; bytes = part } ∷ [] =
+      one-read (blocksFor (sizeOf (leb 512 number) + length part) - 1) (headerFor m (length part)) c B (R .answers) ∙ ap (λ (d : List ℕ). record { fields = m; bytes = d } ∷ []) (R .stands) in
+      let rest : messagesRead c₁ G ≡ messages = ap (messagesRead c₁) same ∙ ih .0 in
+      let after : channelAfter c (B ++ G) ≡ channelAfter c₁ (blocksOf di (c₁ .expected) messages) = after-append c B G ∙ ap (channelAfter c₁) same in
+      let count : length (B ++ G) ≡ length B + length (blocksOf di (c₁ .expected) messages) = length-append B G ∙ ap (λ (g : List (List ℕ)). length B + length g) same in (
+        read-append c B G ∙ ap₂ (λ (xs ys : List Message). xs ++ ys) one rest,
+        subst Listens (sym after) (ih .1),
+        ap (λ (d : Channel). d .expected) after ∙ ih .2 ∙ omega arith,
+      )
+
+-- ---- the group state: messages to the group
+
+-- a message that is joined on: the state and the buffer that it leaves
+module _ (number ri : ℕ) (small-number : number ≤ 16383) (small-ri : ri ≤ 3) where
+  allowed : (ci d : ℕ) (first last : Bool) → ci ≤ 3 → d ≤ 255 → within (groupFields number ri ci first last) d ≡ true
+  unfolding within
+  allowed ci d first last hc hd = rw (le-leb _ _ small-number, le-leb _ _ hd, le-leb _ _ small-ri, le-leb _ _ hc)
+
+  -- not First: gathering, CI one more, less than fifteen messages
+  follows : (held messages ci : ℕ) (last : Bool) (s buffer : List ℕ) → keepsRule (groupOf number Gathering held messages ci) ≡ true → ci ≤ 3 → length s ≤ 255 → messages < 15 → 3825 ≤ length buffer
+      → joinOf (groupOf number Gathering held messages ci) (groupFields number ri ((ci + 1) % 4) false last) s buffer
+      ≡ joinedOn (groupOf number Gathering held messages ci) (groupFields number ri ((ci + 1) % 4) false last) s buffer
+  follows held messages ci last s buffer rule hc hd hm room =
+      let g = groupOf number Gathering held messages ci in
+      let m = groupFields number ri ((ci + 1) % 4) false last in
+      let rules : (keepsRule g && within m (length s)) ≡ true = rw (rule, allowed ((ci + 1) % 4) (length s) false last (omega arith) hd) in
+      let ours : (eqb number number && true) ≡ true = rw (eq-eqb number number refl) in
+      sym (joins g m s buffer room rules ours g refl (eq-eqb ((ci + 1) % 4) ((ci + 1) % 4) refl) hm)
+
+  pub record Joins (k : ℕ) (first : Bool) (ci : ℕ) (s : List ℕ) (g base : Group) (buffer : List ℕ) : Type 0 where
+    pub answers : answersTo g buffer (messagesOf (suc k) first number ri ci s) ≡ replicate k taken ++ (whole (base .held + length s) ∷ [])
+    pub state : groupAfter g buffer (messagesOf (suc k) first number ri ci s) ≡ idle number
+    pub bytes : take (base .held + length s) (bufferAfter g buffer (messagesOf (suc k) first number ri ci s)) ≡ take (base .held) buffer ++ s
+
+  series-joins : (k : ℕ) (first : Bool) (ci : ℕ) (s : List ℕ) (g base : Group) (buffer : List ℕ) → ci ≤ 3 → length s ≤ 255 * suc k → 3825 ≤ length buffer
+      → base .number ≡ number → base .held ≤ 255 * base .messages → base .messages + suc k ≤ 15
+      → joinOf g (groupFields number ri ci first (eqb k 0)) (take 255 s) buffer ≡ joinedOn base (groupFields number ri ci first (eqb k 0)) (take 255 s) buffer
+      → Joins k first ci s g base buffer
+  unfolding joinedOn
+  series-joins zero first ci s g base buffer hc hs room is hh hm e =
+      let all : take 255 s ≡ s = take-all 255 s (omega arith) in
+      let l : joinOf g (groupFields number ri ci first true) (take 255 s) buffer ≡ leaves (whole (base .held + length s)) (idle number) (paste buffer (base .held) s (length s)) =
+      e ∙ (λ i. leaves (whole (base .held + length (all i))) (idle (is i)) (paste buffer (base .held) (all i) (length (all i)))) in
+      record {
+        answers = ap (λ (x : Left). x .answer ∷ []) l;
+        state = ap (λ (x : Left). x .group) l;
+        bytes = ap (λ (x : Left). take (base .held + length s) (x .buffer)) l ∙ front buffer s (base .held) (omega arith);
+      }
+  series-joins (suc j) first ci s g base buffer hc hs room is hh hm e =
+      let m = groupFields number ri ci first (eqb (suc j) 0) in
+      let part = take 255 s in
+      let rest = drop 255 s in
+      let few : length part ≤ 255 = omega (arith, length-take 255 s) in
+      let held = base .held + length part in
+      let next = groupOf number Gathering held (base .messages + 1) ci in
+      let laid = paste buffer (base .held) part (length part) in
+      let l : joinOf g m part buffer ≡ leaves taken next laid =
+      e ∙ (rw (eqb·suc-zero j) (λ i. leaves taken (groupOf (is i) Gathering held (base .messages + 1) ci) laid)) in
+      let long : length laid ≡ length buffer = length-paste buffer (base .held) part (length part) (omega arith) (omega arith) in
+      let rule = gathering-rule number (base .held) (base .messages) (length part) ci small-number hh (omega arith) few hc in
+      let few-rest : length (take 255 rest) ≤ 255 = omega (arith, length-take 255 rest) in
+      let left : length rest ≤ 255 * suc j = rw length-drop (omega arith) in
+      let messages = messagesOf (suc j) false number ri ((ci + 1) % 4) rest in
+      let ih = series-joins j false ((ci + 1) % 4) rest next next laid (omega arith) left (omega arith) refl (omega arith) (omega arith)
+      (follows held (base .messages + 1) ci (eqb j 0) (take 255 rest) laid rule hc few-rest (omega arith) (omega arith)) in
+      let cut : part ++ rest ≡ s = take-append-drop 255 s in
+      let total : held + length rest ≡ base .held + length s = omega (arith, ap length cut, length-append part rest) in
+      record {
+        answers = ap (λ (x : Left). x .answer ∷ answersTo (x .group) (x .buffer) messages) l ∙ ap (λ (a : List Outcome). taken ∷ a) (ih .answers ∙ ap (λ (n : ℕ). replicate j taken ++ (whole n ∷ [])) total);
+        state = ap (λ (x : Left). groupAfter (x .group) (x .buffer) messages) l ∙ ih .state;
+        bytes =
+            ap (λ (x : Left). take (base .held + length s) (bufferAfter (x .group) (x .buffer) messages)) l
+            ∙ ap (λ (n : ℕ). take n (bufferAfter next laid messages)) (sym total)
+            ∙ ih .bytes
+            ∙ ap (λ (r : List ℕ). r ++ rest) (front buffer part (base .held) (omega arith))
+            ∙ append-assoc (take (base .held) buffer) part rest
+            ∙ ap (λ (r : List ℕ). take (base .held) buffer ++ r) cut;
+      }
+
+-- ---- both
+
+-- A GROUP WRITTEN READS BACK
+pub group-back : (x : Series) (s : List ℕ) (c : Channel) (g : Group) (buffer : List ℕ) → groups.within x (length s) ≡ true → Listens c → c .expected ≡ x .sc
+    → keepsRule g ≡ true → g .number ≡ x .number → 3825 ≤ length buffer → GroupBack x s c g buffer
+unfolding groupBlocks
+group-back x s c g buffer fits l sc rule same room =
+    let b = series-bounds x (length s) fits in
+    let n = length s in
+    let k = (n - 1) / 255 in
+    let f = full-messages n (b .4) in
+    let messages = messagesOf (suc k) true (x .number) (x .ri) (x .ci) s in
+    let blocks : blocksOf (x .di) (c .expected) messages ≡ groupBlocks x s =
+    λ i. blocksOf (x .di) (sc i) (messagesOf (sym (add-one k) i) true (x .number) (x .ri) (x .ci) s) in
+    let R = series-read (x .number) (x .ri) (x .di) (b .0) (b .1) (suc k) true (x .ci) s c (b .3) l in
+    let read : messagesRead c (groupBlocks x s) ≡ messages = ap (messagesRead c) (sym blocks) ∙ R .0 in
+    let m = groupFields (x .number) (x .ri) (x .ci) true (eqb k 0) in
+    let few : length (take 255 s) ≤ 255 = omega (arith, length-take 255 s) in
+    let rules : (keepsRule g && within m (length (take 255 s))) ≡ true =
+    rw (rule, allowed (x .number) (x .ri) (b .0) (b .1) (x .ci) (length (take 255 s)) true (eqb k 0) (b .3) few) in
+    let ours : (eqb (x .number) (g .number) && true) ≡ true = rw (eq-eqb _ _ (sym same)) in
+    let first : joinOf g m (take 255 s) buffer ≡ joinedOn (idle (x .number)) m (take 255 s) buffer =
+    sym (joins g m (take 255 s) buffer room rules ours (idle (g .number)) refl refl (omega arith))
+    ∙ ap (λ (i : ℕ). joinedOn (idle i) m (take 255 s) buffer) same in
+    let J = series-joins (x .number) (x .ri) (b .0) (b .1) k true (x .ci) s g (idle (x .number)) buffer (b .3) (omega arith) room refl (omega arith) (omega arith) first in
+    let less : k + 1 - 1 ≡ k = omega arith in
+    let none : 0 + n ≡ n = omega arith in
+    record {
+      answers = ap (answersTo g buffer) read ∙ J .answers ∙ (λ i. replicate (sym less i) taken ++ (whole (none i) ∷ []));
+      state = ap (groupAfter g buffer) read ∙ J .state;
+      bytes = (λ i. take (sym none i) (bufferAfter g buffer (read i))) ∙ J .bytes;
+      listens = subst (λ (bs : List (List ℕ)). Listens (channelAfter c bs)) blocks (R .1);
+      expected = subst (λ (bs : List (List ℕ)). channelAfter c bs .expected ≡ (c .expected + length bs) % 16) blocks (R .2) ∙ ap (λ (i : ℕ). (i + length (groupBlocks x s)) % 16) sc;
+    }
