@@ -63,15 +63,29 @@ fn size_of(ext: bool) -> usize
     if ext { 5 } else { 4 }
 }
 
-// The fields of a header of `size` bytes: RI to ADD are its first sixteen bits, the others stand above its end.
+// A header of `size` bytes, taken apart.
 fn parted(h: u64, ext: bool, size: usize) -> Opened
     requires { ⌜ (size ≡ sizeOf ext) × (4 ≤ size) × (size ≤ 5) × (h < 2 ^ (8 * size)) ⌝ }
     ensures { λ r. ⌜ r ≡ opened ext h ⌝ }
 {
     let fields = h / 64;
+    Opened {
+        header: reported(h, ext, size),
+        rfa: with_ext(ext, (fields >> 10) % 8) as u8,
+        caf: (fields >> 8) % 2 == 1,
+        checked: header::check(fields) == h % 64,
+    }
+}
+
+// The fields that are reported: RI to ADD are the first sixteen bits of a header, the others stand above its end.
+fn reported(h: u64, ext: bool, size: usize) -> Header
+    requires { ⌜ (size ≡ sizeOf ext) × (4 ≤ size) × (size ≤ 5) ⌝ }
+    ensures { λ r. ⌜ r ≡ opened ext h .header ⌝ }
+{
+    let fields = h / 64;
     let front = fields >> (8 * size - 22);
     let upper = with_ext(ext, (fields >> 13) % 32);
-    let header = Header {
+    Header {
         ri: ((front >> 14) % 4) as u8,
         ci: ((front >> 12) % 4) as u8,
         first: (front >> 11) % 2 == 1,
@@ -81,12 +95,6 @@ fn parted(h: u64, ext: bool, size: usize) -> Opened
         command: (fields >> 9) % 2 == 1,
         length: (fields % 256) as usize,
         size,
-    };
-    Opened {
-        header,
-        rfa: with_ext(ext, (fields >> 10) % 8) as u8,
-        caf: (fields >> 8) % 2 == 1,
-        checked: header::check(fields) == h % 64,
     }
 }
 

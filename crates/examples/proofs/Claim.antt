@@ -19,8 +19,7 @@ use Rattle.channel.specs.Answers as channel
 use Rattle.channel.specs.Answers.{Left, leaves}
 use Rattle.channel.specs.Layer4.{sizeOf, blocksFor}
 use Rattle.channel.specs.State.{channelOf, fresh, keepsRule, asWaiting, advanced, stepOf}
-use Rattle.writer.specs.Message.{headerFor, blocksOf, messageBytes, messageBlocks}
-use Rattle.writer.proofs.Writing.{length-cut}
+use Rattle.writer.proofs.Writing.{message-count}
 use Rattle.answers.specs.Numbers.{accepted}
 use Rattle.band.specs.Band.{Told, kilohertzOf}
 use Rattle.examples.specs.Table.{header, khz, reserved, blocks, word, noWord, wrongCheck, Holds, AllHold, zeros, generatorBlock, tenCleared, nineCleared, table}
@@ -139,9 +138,7 @@ p10 : Holds (reserved 205)
 p10 r e = (ap (λ (t : Told). t .answer) e, ap (λ (t : Told). t .number) e)
 
 blocks-holds : (ext : Bool) (bytes count : ℕ) → blocksFor (sizeOf ext + bytes) ≡ count → Holds (blocks ext bytes count)
-unfolding messageBlocks
-blocks-holds ext bytes count e m di sc s form long =
-    length-cut (blocksOf (headerFor m (length s))) di sc (messageBytes (headerFor m (length s)) s) ∙ (λ i. blocksFor (sizeOf (form i) + long i)) ∙ e
+blocks-holds ext bytes count e m di sc s form long = message-count m di sc s ∙ (λ i. blocksFor (sizeOf (form i) + long i)) ∙ e
 
 p11 : Holds (blocks false 16 1)
 p11 = blocks-holds false 16 1 refl

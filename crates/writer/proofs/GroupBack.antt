@@ -28,7 +28,9 @@ use Rattle.group.specs.declared.Group.{Group}
 use Rattle.group.specs.declared.Phase.the-variants.{Gathering}
 use Rattle.writer.specs.declared.Series.{Series}
 use Rattle.group.proofs.Joining.{joins}
-use Rattle.writer.proofs.GroupWriting.{message-count, series-bounds, message-within, full-messages}
+use Rattle.writer.proofs.Laws.{within-true}
+use Rattle.writer.proofs.Writing.{message-count}
+use Rattle.writer.proofs.GroupWriting.{series-bounds, full-messages}
 use Rattle.group.proofs.Rule.{gathering-rule}
 use Rattle.group.proofs.Leading.{front}
 
@@ -80,7 +82,7 @@ module _ (number ri : ℕ) (di : Bool) (small-number : number ≤ 16383) (small-
       let sc = c .expected in
       let B = messageBlocks m di sc part in
       let small = rule-sc c (l .rule) in
-      let R = read-back m di part c l (message-within number ri ci sc (length part) first (eqb k 0) small-number small-ri hc (omega arith) few) in
+      let R = read-back m di part c l (within-true m sc (length part) (omega arith) (omega arith) (omega arith) small few) in
       let c₁ = channelAfter c B in
       let n = message-count m di sc part in
       let e : (sc + length B) % 16 ≡ c₁ .expected = ap (λ (i : ℕ). (sc + i) % 16) n ∙ sym (R .expected) in

@@ -13,31 +13,13 @@ use lib.Seq.{take-all, take-at, drop-at, drop-drop, length-take-le}
 use Rattle.answers.specs.Numbers.{accepted}
 use Rattle.gf2.proofs.Lists.{tail-lent, tail-back}
 use Rattle.channel.specs.Layer4.{sizeOf, blocksFor}
-use Rattle.writer.specs.Message.{headerFor, messageBytes, messageBlocks, flat, Written, written, Writes}
+use Rattle.writer.specs.Message.{messageBlocks, flat, Written, written, Writes}
 use Rattle.writer.specs.Message as message
-use Rattle.channel.specs.declared.Fields.{Fields}
 use Rattle.writer.specs.declared.Wrote.{Wrote}
-use Rattle.writer.proofs.Laws.{size-room}
-use Rattle.writer.proofs.Writing.{length-cut, length-flat, message-length, flat-append}
+use Rattle.writer.proofs.Laws.{size-room, within-true}
+use Rattle.writer.proofs.Writing.{flat-append, message-count, message-flat, message-small}
 use Rattle.writer.specs.Group.{within, groupFields, messagesOf, blocksOf, messagesFor}
 use Rattle.writer.specs.declared.Series.{Series}
-
--- ---- one message
-
-module _ (m : Fields) (di : Bool) (sc : ℕ) (s : List ℕ) where
-  pub message-count : length (messageBlocks m di sc s) ≡ blocksFor (sizeOf (leb 512 (m .number)) + length s)
-  unfolding messageBlocks
-  message-count = length-cut (message.blocksOf (headerFor m (length s))) di sc (messageBytes (headerFor m (length s)) s)
-
-  module _ (few : length s ≤ 255) where
-    message-flat : length (flat (messageBlocks m di sc s)) ≡ 22 * length (messageBlocks m di sc s)
-    unfolding messageBlocks
-    message-flat =
-        let h = headerFor m (length s) in
-        length-flat (message.blocksOf h) di sc (messageBytes h s) (message-length h s refl few) ∙ ap (λ (n : ℕ). 22 * n) (sym message-count)
-
-    message-small : length (messageBlocks m di sc s) ≤ 13
-    message-small = omega (arith, message-count, size-room (leb 512 (m .number)))
 
 -- what the group writer takes
 pub series-bounds : (x : Series) (n : ℕ) → within x n ≡ true → (x .number ≤ 16383) × (x .ri ≤ 3) × (x .sc ≤ 15) × (x .ci ≤ 3) × (n ≤ 3825)
@@ -53,12 +35,6 @@ series-bounds x n e =
     let v = and-eq-true-iff (a && b) d .0 (u .0) in
     let w = and-eq-true-iff a b .0 (v .0) in
     (leb-true (x .number) 16383 (w .0), leb-true (x .ri) 3 (w .1), leb-true (x .sc) 15 (v .1), leb-true (x .ci) 3 (u .1), leb-true n 3825 (t .1))
-
--- the message writer takes such a message
-pub message-within : (number ri ci sc n : ℕ) (first last : Bool) → number ≤ 16383 → ri ≤ 3 → ci ≤ 3 → sc ≤ 15 → n ≤ 255
-    → message.within (groupFields number ri ci first last) sc n ≡ true
-unfolding message.within
-message-within number ri ci sc n first last h1 h2 h3 h4 h5 = rw (le-leb _ _ h2, le-leb _ _ h3, le-leb _ _ h1, le-leb _ _ h4, le-leb _ _ h5)
 
 -- ---- one message more
 
@@ -116,7 +92,7 @@ module _ (x : Series) (bytes output output₀ whole : List ℕ) (first : Bool) (
       let lw : length whole ≡ to + 22 * length B + length (flat G) = ap length split ∙ length-append (take to output ++ flat B) (flat G) ∙ ap (λ (n : ℕ). n + length (flat G)) lf in
       let u : take (length output - to) T ≡ T = tail-lent output to in
       let p = part bytes from end in-bytes at-end in
-      let w : message.within m sc (length s) ≡ true = message-within (x .number) (x .ri) ci sc (length s) first (eqb k 0) (b .0) (b .1) small-ci small-sc few in
+      let w : message.within m sc (length s) ≡ true = within-true m sc (length s) (omega arith) (omega arith) (omega arith) (omega arith) few in
       let W : message.writeMessageOf (groupFields (x .number) (x .ri) ci first (eqb (suc k - 1) 0)) (x .di) sc (take (end - from) D) (length (take (length output - to) T)) ≡ written accepted B =
       rw (less, p .0, u, w, le-leb (22 * blocksFor (sizeOf (leb 512 (x .number)) + length s)) (length T) (omega arith)) in
       let n : wrote .blocks ≡ length B = did .blocks ∙ ap (λ (v : Written). length (v .blocks)) W in

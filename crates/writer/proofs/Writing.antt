@@ -6,7 +6,7 @@ use mathlib.Core.List.{List, [], _∷_, _++_, append-assoc}
 use native.Mathlib.Nat.{add-assoc, sub-zero, zero-sub, suc-sub-suc}
 use native.Mathlib.Omega.{arith}
 use borrow.Rule.Slice.PartMut.{putMid}
-use lib.Dec.{eqb}
+use lib.Dec.{eqb, leb}
 use lib.ListN.{length, take, drop, replicate, length-append, length-drop, length-replicate}
 use lib.Seq.{paste, take-paste, drop-paste, take-all, take-at, drop-at, take-length, take-append-add, drop-drop, length-take-le}
 use Rattle.header.specs.Check.{bit}
@@ -14,12 +14,13 @@ use Rattle.header.specs.Fields.{total, packed, withCheck, header, bytesOf}
 use Rattle.header.proofs.Bits.{bit-lt}
 use Rattle.header.proofs.Fields.{length-bytes}
 use Rattle.channel.specs.Layer3.{layer3}
-use Rattle.writer.specs.Message.{blockOf, headerBytes, blocksOf, messageBytes, cut, flat, Written, written, Writes}
-use Rattle.channel.specs.Layer4.{layer4, sizeOf}
+use Rattle.writer.specs.Message.{blockOf, headerBytes, blocksOf, messageBytes, cut, flat, Written, written, Writes, headerFor, messageBlocks}
+use Rattle.channel.specs.Layer4.{layer4, sizeOf, blocksFor}
 use Rattle.answers.specs.Numbers.{numberOf, accepted, refused, paper}
 use Rattle.answers.specs.declared.Refusal.{Refusal}
 use Rattle.answers.specs.declared.Answer.the-variants.{Accepted, Refused}
 use Rattle.writer.specs.declared.Wrote.{Wrote}
+use Rattle.channel.specs.declared.Fields.{Fields}
 use Rattle.channel.specs.declared.Header.{Header}
 use Rattle.channel.proofs.Laws.{check-at}
 use Rattle.writer.proofs.Laws.{size-room}
@@ -141,11 +142,11 @@ module _ (whole output output₀ bytes behind-blocks : List ℕ) (from to sc : �
         drop-paste output to b 22 (omega arith) (omega arith) ∙ sym (drop-drop 22 to output) ∙ ap (drop 22) same ∙ drop-drop 22 to output₀,
       )
 
-pub length-cut : (k : ℕ) (di : Bool) (sc : ℕ) (bytes : List ℕ) → length (cut k di sc bytes) ≡ k
+length-cut : (k : ℕ) (di : Bool) (sc : ℕ) (bytes : List ℕ) → length (cut k di sc bytes) ≡ k
 length-cut zero di sc bytes = refl
 length-cut (suc k) di sc bytes = ap suc (length-cut k di ((sc + 1) % 16) (drop 20 bytes))
 
-pub length-flat : (k : ℕ) (di : Bool) (sc : ℕ) (bytes : List ℕ) → length bytes ≡ 20 * k → length (flat (cut k di sc bytes)) ≡ 22 * k
+length-flat : (k : ℕ) (di : Bool) (sc : ℕ) (bytes : List ℕ) → length bytes ≡ 20 * k → length (flat (cut k di sc bytes)) ≡ 22 * k
 length-flat zero di sc bytes h = refl
 length-flat (suc k) di sc bytes h =
     let b = blockOf di (eqb k 0) sc (take 20 bytes) in
@@ -213,3 +214,20 @@ all-written w blocks n r before after e l a b o =
       blocks = b ∙ sym l ∙ sym (ap (λ (v : Written). length (v .blocks)) e);
       output = o ∙ ap (λ (k : ℕ). flat blocks ++ drop (22 * k) before) (sym l) ∙ sym (ap (λ (v : Written). flat (v .blocks) ++ drop (22 * length (v .blocks)) before) e);
     }
+
+-- ---- the blocks of a message
+
+module _ (m : Fields) (di : Bool) (sc : ℕ) (s : List ℕ) where
+  pub message-count : length (messageBlocks m di sc s) ≡ blocksFor (sizeOf (leb 512 (m .number)) + length s)
+  unfolding messageBlocks
+  message-count = length-cut (blocksOf (headerFor m (length s))) di sc (messageBytes (headerFor m (length s)) s)
+
+  module _ (few : length s ≤ 255) where
+    pub message-flat : length (flat (messageBlocks m di sc s)) ≡ 22 * length (messageBlocks m di sc s)
+    unfolding messageBlocks
+    message-flat =
+        let h = headerFor m (length s) in
+        length-flat (blocksOf h) di sc (messageBytes h s) (message-length h s refl few) ∙ ap (λ (n : ℕ). 22 * n) (sym message-count)
+
+    pub message-small : length (messageBlocks m di sc s) ≤ 13
+    message-small = omega (arith, message-count, size-room (leb 512 (m .number)))

@@ -9,7 +9,7 @@ use lib.ListN.{length}
 use Rattle.answers.specs.declared.Refusal.the-variants.{OutsideRule, TooShort}
 use Rattle.writer.specs.Message.{headerFor, blocksOf, messageBlocks, within, writeMessageOf}
 use Rattle.writer.proofs.Laws.{within-widths}
-use Rattle.writer.proofs.Writing.{length-cut, none-written, all-written}
+use Rattle.writer.proofs.Writing.{message-count, none-written, all-written}
 use borrow.Author.Needs.{needs}
 use Rattle.writer.proofs.write_message.Statement.{statement}
 use Rattle.writer.proofs.write_message.Tie as tie
@@ -61,14 +61,14 @@ same-length : tie.Need-same-length
 same-length c = search needs
 
 returns-3 : tie.Need-returns-3
-unfolding writeMessageOf messageBlocks
+unfolding writeMessageOf
 returns-3 c =
     let k = c .before .before .before .before .before in
     let a = k .before .before .before .before .before .args in
     let n = blocksOf (headerFor (a .fields) (length (a .«data» .now))) in
     let count = k .blocks-for .ensures .0 in
     let room : leb (22 * n) (length (a .output .now)) ≡ true = le-leb (22 * n) (length (a .output .now)) (omega (arith, count, c .before .before .before .before .if2 .left)) in
-    all-written _ (messageBlocks (a .fields) (a .di) (a .sc) (a .«data» .now)) (k .blocks-for .result) _ (a .output .now) _ (rw (allowed (k .before), room)) (length-cut n (a .di) (a .sc) _ ∙ sym count) refl refl
+    all-written _ (messageBlocks (a .fields) (a .di) (a .sc) (a .«data» .now)) (k .blocks-for .result) _ (a .output .now) _ (rw (allowed (k .before), room)) (message-count (a .fields) (a .di) (a .sc) (a .«data» .now) ∙ sym count) refl refl
     (c .before .before .put-message .ensures)
 
 pub write-message-spec : {M : Type 1} → statement M
