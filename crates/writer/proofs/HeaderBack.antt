@@ -10,9 +10,10 @@ use lib.Dec.{eqb, leb}
 use lib.ListN.{length, getD, take, drop, replicate, length-append, List·getD-append}
 use lib.Pow.{pow-pos}
 use lib.Seq.{take-at, drop-at}
-use Rattle.header.specs.Check.{bit}
+use Rattle.gf2.specs.Poly.{bit}
 use Rattle.header.specs.Fields.{Fit, total, fields, packed, header, withCheck, bytesOf, numberOf}
-use Rattle.header.proofs.Bits.{bit-lt, check-fits}
+use Rattle.gf2.proofs.Bits.{bit-lt}
+use Rattle.header.proofs.Bits.{check-fits}
 use Rattle.header.proofs.Fields.{packed-lt, header-read, check-holds, bytes-number}
 use Rattle.channel.specs.Answers.{message}
 use Rattle.channel.specs.Layer4.{only, layer4, sizeOf, opened, extOf, openedAt, blocksFor, zeros, rightForm, tested, messageOf}

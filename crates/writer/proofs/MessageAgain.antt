@@ -9,7 +9,7 @@ use lib.Dec.{eqb, leb}
 use lib.ListN.{length, getD, take, drop, replicate, length-drop, take-append-drop}
 use lib.Seq.{take-add, length-take-le, getD-take}
 use Rattle.answers.specs.Rules.{unless}
-use Rattle.header.specs.Check.{bit}
+use Rattle.gf2.specs.Poly.{bit}
 use Rattle.header.specs.Fields.{Bytes, Fit, field, fields, header, bytesOf, numberOf}
 use Rattle.header.proofs.Fields.{packed-lt, fields-fit, header-again, number-bytes, total-bytes}
 use Rattle.channel.specs.Answers.{Outcome, message, refused}

@@ -8,9 +8,10 @@ use borrow.Author.Tests.{eq-eqb, lt-ltb, eqb-true}
 use lib.Dec.{eqb, leb, eqb·suc-zero}
 use lib.ListN.{length, getD, take, drop, replicate, length-drop, take-append-drop}
 use lib.Seq.{paste, take-paste, length-paste, take-all, take-length, take-at, drop-at, length-take-le}
-use Rattle.header.specs.Check.{bit}
+use Rattle.gf2.specs.Poly.{bit}
 use Rattle.header.specs.Fields.{Fit, packed, header, fields, bytesOf}
-use Rattle.header.proofs.Bits.{bit-lt, check-fits}
+use Rattle.gf2.proofs.Bits.{bit-lt}
+use Rattle.header.proofs.Bits.{check-fits}
 use Rattle.header.proofs.Fields.{header-read, check-holds, packed-lt, bytes-number}
 use Rattle.channel.specs.Answers.{Outcome, taken, message, leaves, Left}
 use Rattle.channel.specs.Layer3.{layer3, headerOf}

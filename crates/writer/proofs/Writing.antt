@@ -9,9 +9,9 @@ use borrow.Rule.Slice.PartMut.{putMid}
 use lib.Dec.{eqb, leb}
 use lib.ListN.{length, take, drop, replicate, length-append, length-drop, length-replicate}
 use lib.Seq.{paste, take-paste, drop-paste, take-all, take-at, drop-at, take-length, take-append-add, drop-drop, length-take-le}
-use Rattle.header.specs.Check.{bit}
+use Rattle.gf2.specs.Poly.{bit}
 use Rattle.header.specs.Fields.{total, packed, withCheck, header, bytesOf}
-use Rattle.header.proofs.Bits.{bit-lt}
+use Rattle.gf2.proofs.Bits.{bit-lt}
 use Rattle.header.proofs.Fields.{length-bytes}
 use Rattle.channel.specs.Layer3.{layer3}
 use Rattle.writer.specs.Message.{blockOf, headerBytes, blocksOf, messageBytes, cut, flat, Written, written, Writes, headerFor, messageBlocks}

@@ -10,7 +10,7 @@ use lib.Dec.{eqb, leb, ltb, eqb·suc-zero}
 use lib.ListN.{length, getD, take, drop, replicate, length-append, length-take, length-drop, take-append-drop}
 use lib.Seq.{paste, take-all, take-at, drop-at, length-take-le, take-append-le, drop-append-le}
 use Rattle.answers.specs.Rules.{unless}
-use Rattle.header.specs.Check.{bit}
+use Rattle.gf2.specs.Poly.{bit}
 use Rattle.header.specs.Fields.{Bytes, field, total, fields, header, holds, bytesOf}
 use Rattle.header.proofs.Fields.{packed-lt, fields-fit, header-again, number-bytes}
 use Rattle.channel.specs.Answers.{Outcome, taken, message, refused, Left, leaves}

@@ -6,7 +6,7 @@ use mathlib.Core.Path.{_≡_}
 use mathlib.Core.Bool.{Bool, true}
 use mathlib.Core.List.{List, [], _∷_, _++_}
 use lib.ListN.{length, take, drop, replicate}
-use Rattle.header.specs.Check.{bit}
+use Rattle.gf2.specs.Poly.{bit}
 use Rattle.header.specs.Fields.{field, Bytes}
 use Rattle.channel.specs.Answers.{Outcome, taken, message, refused}
 use Rattle.channel.specs.Layer3.{layer3, headerOf}

@@ -6,7 +6,7 @@ ghost use Prim.Native.Nat.{_*_, _+_, _<_, _≤_, _^_};
 ghost use lib.ListN.{length, drop};
 ghost use lib.Dec.{leb};
 ghost use lib.Seq.{paste};
-ghost use Rattle.header.specs.Check.{bit};
+ghost use Rattle.gf2.specs.Poly.{bit};
 ghost use Rattle.header.specs.Fields.{total, packed, withCheck, header};
 ghost use Rattle.channel.specs.Layer3.{layer3};
 ghost use Rattle.channel.specs.Layer4.{sizeOf, layer4, blocksFor};
