@@ -6,6 +6,7 @@ use mathlib.Core.Logic.{inl, inr}
 use Prim.Native.Nat.{ℕ, zero, suc, _+_, _≤_, _<_}
 use native.Mathlib.Omega.{arith}
 use lib.Dec.{T, ltb, ltb→lt, lit≤, lit<}
+use lib.Ieee.Fits.{and-l, and-r}
 use lib.ListN.{length, getD, replicate}
 use Rattle.code.specs.Code.{generator, CodeWord, distance}
 use Rattle.code.proofs.Majority.{only-word, nine-away}
