@@ -1,19 +1,20 @@
 // The block's commands.
-use crate::told;
-use crate::told::Told;
+use crate::put;
 
-pub(crate) fn correct(received: &[u8], output: &mut [u8]) -> Told {
+pub(crate) fn correct(received: &[u8], output: &mut [u8]) {
     let corrected = block::correct(received, output);
     let answer = corrected.answer;
-    told::answered(0, answer, corrected.count as u64)
+    put::filled(b"word", answer, corrected.count as u64, output);
 }
 
-pub(crate) fn read_block(received: &[u8], output: &mut [u8]) -> Told {
+pub(crate) fn read_block(received: &[u8], output: &mut [u8]) {
     let read = block::read_block(received, output);
     let answer = read.answer;
-    told::answered(1, answer, read.count as u64)
+    put::filled(b"information", answer, read.count as u64, output);
 }
 
-pub(crate) fn write_block(information: &[u8], output: &mut [u8]) -> Told {
-    told::answered(2, block::write_block(information, output), 0)
+pub(crate) fn write_block(information: &[u8], output: &mut [u8]) {
+    put::answer(b"block", block::write_block(information, output));
+    put::word(b"\t");
+    put::bytes(output);
 }

@@ -23,7 +23,7 @@ const CHANNEL: usize = 260;
 // and lent.
 pub struct Case {
     pub command: usize,
-    pub numbers: Numbers,
+    pub numbers: [u64; MOST],
     pub given: usize,
     pub lent: usize,
 }
@@ -34,16 +34,9 @@ pub struct Argument {
     pub number: u64,
 }
 
-// The numbers of the arguments, each at its place, and what of them eight and 32 bits hold.
-pub struct Numbers {
-    pub small: [u8; MOST],
-    pub wide: [u32; MOST],
-    pub whole: [u64; MOST],
-}
-
 struct Arguments {
     readable: bool,
-    numbers: Numbers,
+    numbers: [u64; MOST],
 }
 
 // 131,072 zeros, which a log may fill.
@@ -80,16 +73,9 @@ fn case_of(command: Argument, arguments: Arguments, given: Argument, lent: Argum
         given: given.number as usize,
         lent: lent.number as usize,
     };
-    if !arguments.readable {
-        return case;
+    if arguments.readable & given.readable & lent.readable {
+        case.command = command.number as usize;
     }
-    if !given.readable {
-        return case;
-    }
-    if !lent.readable {
-        return case;
-    }
-    case.command = command.number as usize;
     case
 }
 
@@ -113,24 +99,16 @@ fn word(word: &[u8], list: &[u8]) -> Argument {
 
 // Reads each argument by its kind. The line has to have one for each kind, and no more.
 fn read_numbers(line: &[u8], row: &[u8]) -> Arguments {
-    let mut small = [0u8; MOST];
-    let mut wide = [0u32; MOST];
-    let mut whole = [0u64; MOST];
+    let mut numbers = [0u64; MOST];
     let mut readable = text::arguments(line) == row.len();
     let mut i = 0;
     while i < MOST {
         let argument = read_at(line, row, i);
-        let number = argument.number;
-        small[i] = (number % 256) as u8;
-        wide[i] = (number % 4294967296) as u32;
-        whole[i] = number;
+        numbers[i] = argument.number;
         readable = argument.readable & readable;
         i += 1;
     }
-    Arguments {
-        readable,
-        numbers: Numbers { small, wide, whole },
-    }
+    Arguments { readable, numbers }
 }
 
 // The argument at a place; where the row has none, 0.

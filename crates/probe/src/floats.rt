@@ -4,9 +4,7 @@ ghost use Prim.Native.Nat.{_<_};
 use crate::cases;
 use crate::cases::Argument;
 use crate::put;
-
-// One of the patterns of what is no number.
-const NO_NUMBER: u64 = 9221120237041090560;
+use libc::STDOUT_FILENO;
 
 // The bits in an argument.
 pub(crate) fn read(digits: &[u8]) -> Argument {
@@ -42,18 +40,13 @@ pub(crate) fn of_bits(bits: u64) -> f64 {
     f64::from_bits(bits)
 }
 
-pub(crate) fn bits_of(float: f64) -> u64 {
+// Writes whether a number exists, and the number.
+pub(crate) fn put(exists: bool, float: f64) {
+    put::number(exists as u64);
+    put::word(b"\t");
     if float != float {
-        return NO_NUMBER;
+        put::word(b"nnnnnnnnnnnnnnnn");
+        return;
     }
-    f64::to_bits(float)
-}
-
-pub(crate) fn put(room: &mut [u8], at: usize, bits: u64) -> usize {
-    if bits == NO_NUMBER {
-        return put::word(room, at, b"nnnnnnnnnnnnnnnn");
-    }
-    let mut digits = [0u8; 16];
-    let count = io::hex(bits, 16, &mut digits);
-    put::word(room, at, &digits[..count])
+    io::print_hex(STDOUT_FILENO, f64::to_bits(float), 16);
 }

@@ -1,136 +1,90 @@
 // The groups' commands.
-use crate::cases::Numbers;
+use crate::cases::MOST;
 use crate::messages;
-use crate::told;
-use crate::told::Told;
+use crate::put;
 use group::Group;
 use group::Phase;
 use group::Step;
 use writer::Series;
 
-pub(crate) fn new_group(numbers: Numbers) -> Told {
-    let wide = numbers.wide;
-    let made = Group::new((wide[0] % 65536) as u16);
+pub(crate) fn new_group(number: u16) {
+    let made = Group::new(number);
     let answer = made.answer;
     let group = made.group;
-    state(6, told::refusal(answer), group)
+    put::answer(b"fresh", answer);
+    put_state(group);
 }
 
-pub(crate) fn join(numbers: Numbers, data: &[u8], buffer: &mut [u8]) -> Told {
+pub(crate) fn join(numbers: [u64; MOST], data: &[u8], buffer: &mut [u8]) {
     let group = state_in(numbers);
     let message = messages::fields_at(numbers, 5);
     let stepped = group.join(message, data, buffer);
     let answer = stepped.answer;
     let next = stepped.group;
-    told_of(answer, next)
+    put_answer(answer);
+    put_state(next);
+    put::word(b"\t");
+    put::bytes(buffer);
 }
 
-fn told_of(answer: Step, group: Group) -> Told {
+fn put_answer(answer: Step) {
     match answer {
-        Step::Taken => state(7, 0, group),
-        Step::Whole(length) => whole(length, group),
-        Step::Refused(refusal) => state(7, answers::number(refusal) as u64, group),
+        Step::Taken => put::word(b"taken"),
+        Step::Whole(length) => put_whole(length),
+        Step::Refused(refusal) => put::refusal(refusal),
     }
+}
+
+fn put_whole(length: usize) {
+    put::word(b"group");
+    put::number(length as u64);
 }
 
 // The state in the first five arguments.
-fn state_in(numbers: Numbers) -> Group {
-    let small = numbers.small;
-    let wide = numbers.wide;
+fn state_in(numbers: [u64; MOST]) -> Group {
     Group {
-        number: (wide[0] % 65536) as u16,
-        phase: phase_of(small[1]),
-        held: wide[2] as usize,
-        messages: small[3],
-        ci: small[4],
+        number: (numbers[0] % 65536) as u16,
+        phase: phase_of(numbers[1]),
+        held: numbers[2] as usize,
+        messages: (numbers[3] % 256) as u8,
+        ci: (numbers[4] % 256) as u8,
     }
 }
 
-fn phase_of(number: u8) -> Phase {
+fn phase_of(number: u64) -> Phase {
     if number == 0 {
         return Phase::Idle;
     }
     Phase::Gathering
 }
 
-fn number_of(phase: Phase) -> u64 {
+fn put_state(group: Group) {
+    let phase = group.phase;
+    put::number(group.number as u64);
+    put_phase(phase);
+    put::numbers(&[group.held as u64, group.messages as u64, group.ci as u64]);
+}
+
+fn put_phase(phase: Phase) {
     match phase {
-        Phase::Idle => 3,
-        Phase::Gathering => 2,
-    }
-}
-
-// A state behind an answer.
-fn state(form: usize, refusal: u64, group: Group) -> Told {
-    let number = group.number as u64;
-    let phase = group.phase;
-    let held = group.held as u64;
-    let messages = group.messages as u64;
-    let ci = group.ci as u64;
-    Told {
-        form,
-        numbers: [
-            refusal,
-            number,
-            number_of(phase),
-            held,
-            messages,
-            ci,
-            0,
-            0,
-            0,
-            0,
-            0,
-            0,
-            0,
-            0,
-        ],
-    }
-}
-
-// A state behind the length of a group.
-fn whole(length: usize, group: Group) -> Told {
-    let number = group.number as u64;
-    let phase = group.phase;
-    let held = group.held as u64;
-    let messages = group.messages as u64;
-    let ci = group.ci as u64;
-    Told {
-        form: told::GROUP,
-        numbers: [
-            0,
-            length as u64,
-            number,
-            number_of(phase),
-            held,
-            messages,
-            ci,
-            0,
-            0,
-            0,
-            0,
-            0,
-            0,
-            0,
-        ],
+        Phase::Idle => put::word(b"\tidle"),
+        Phase::Gathering => put::word(b"\tgathering"),
     }
 }
 
 // What a group is written with, in the first five arguments.
-fn series_in(numbers: Numbers) -> Series {
-    let small = numbers.small;
-    let wide = numbers.wide;
+fn series_in(numbers: [u64; MOST]) -> Series {
     Series {
-        number: (wide[0] % 65536) as u16,
-        ri: small[1],
-        di: small[2] == 1,
-        sc: small[3],
-        ci: small[4],
+        number: (numbers[0] % 65536) as u16,
+        ri: (numbers[1] % 256) as u8,
+        di: numbers[2] == 1,
+        sc: (numbers[3] % 256) as u8,
+        ci: (numbers[4] % 256) as u8,
     }
 }
 
-pub(crate) fn write_group(numbers: Numbers, data: &[u8], output: &mut [u8]) -> Told {
+pub(crate) fn write_group(numbers: [u64; MOST], data: &[u8], output: &mut [u8]) {
     let wrote = writer::write_group(series_in(numbers), data, output);
     let answer = wrote.answer;
-    told::answered(8, answer, wrote.blocks as u64)
+    put::filled(b"written", answer, wrote.blocks as u64, output);
 }

@@ -7,55 +7,48 @@ mod groups;
 mod messages;
 mod put;
 mod surveys;
-mod told;
 
 ghost use Rattle.io.specs.Counts.{Counts};
-use cases::Numbers;
+use cases::MOST;
+use channel::Channel;
 use libc::STDERR_FILENO;
 use libc::STDIN_FILENO;
 use libc::STDOUT_FILENO;
-use told::Told;
 
 const LINE_FEED: u8 = 10;
 
-// So many bytes were read at once, of which the first ones are taken. The line that is being gathered has a length, and
-// is whole once its end was met. So many bytes of answers wait to be written. Nothing more comes where the input has
-// ended.
-struct State {
-    taken: usize,
-    read: usize,
+// How many bytes are held of the line that is being read, and whether answers can be written.
+struct Held {
     length: usize,
-    whole: bool,
-    waiting: usize,
-    ended: bool,
+    writable: bool,
 }
 
 // Calls the function of a command, by the place of the command in the table.
-fn call(command: usize, numbers: Numbers, given: &[u8], lent: &mut [u8]) -> Told {
+fn call(command: usize, numbers: [u64; MOST], given: &[u8], lent: &mut [u8]) {
     match command {
         0 => blocks::correct(given, lent),
         1 => blocks::read_block(given, lent),
         2 => blocks::write_block(given, lent),
-        3 => messages::new_channel(lent),
-        4 => messages::step(numbers, given, lent),
         5 => messages::write_message(numbers, given, lent),
         7 => groups::join(numbers, given, lent),
         8 => groups::write_group(numbers, given, lent),
-        13 => surveys::report(numbers, lent),
+        13 => surveys::report(surveys::counts_in(numbers), lent),
         14 => surveys::export(numbers, lent),
-        _ => call_plain(command, numbers, given),
+        _ => call_plain(command, numbers, given, lent),
     }
 }
 
-// The commands that are lent nothing.
-fn call_plain(command: usize, numbers: Numbers, given: &[u8]) -> Told {
+// The commands that change nothing that is lent.
+fn call_plain(command: usize, numbers: [u64; MOST], given: &[u8], lent: &[u8]) {
     match command {
-        6 => groups::new_group(numbers),
-        9 => surveys::khz(numbers),
-        10 => surveys::channel(numbers),
+        3 => messages::put_state(Channel::new()),
+        4 => messages::step(numbers, given, lent),
+        6 => groups::new_group((numbers[0] % 65536) as u16),
+        9 => surveys::khz((numbers[0] % 4294967296) as u32),
+        10 => surveys::channel((numbers[0] % 4294967296) as u32),
         11 => surveys::read_log(given),
-        12 => surveys::summarise(numbers),
-        _ => told::bad(),
+        12 => surveys::summarise(surveys::counts_in(numbers)),
+        _ => put::word(b"bad case"),
     }
 }
 
@@ -69,102 +62,73 @@ fn fitting(length: usize, line: &[u8]) -> usize
     cases::within(0, line)
 }
 
-// Puts the answer to the line that was gathered, once it is whole, and begins the next.
-fn answer(line: &[u8], answers: &mut [u8], state: State) -> State {
-    if !state.whole {
-        return state;
-    }
-    let length = fitting(state.length, line);
+// Answers a line, and tells whether the answer was written.
+fn answer(line: &[u8], length: usize) -> bool {
+    let count = fitting(length, line);
     let mut given = cases::room();
     let mut lent = io::large_buffer();
-    let case = cases::read(&line[..length], &mut given, &mut lent);
+    let case = cases::read(&line[..count], &mut given, &mut lent);
     let numbers = case.numbers;
     let n = cases::within(case.given, &given);
     let m = cases::within(case.lent, &lent);
-    let output = &mut lent[..m];
-    let told = call(case.command, numbers, &given[..n], output);
-    let mut next = state;
-    next.waiting = put::line(answers, state.waiting, told, output);
-    next.length = 0;
-    next.whole = false;
-    next
+    call(case.command, numbers, &given[..n], &mut lent[..m]);
+    io::write_all(STDOUT_FILENO, b"\n")
 }
 
-// Takes what was read, up to the end of a line. A line that is too long fills its room.
-fn gather(chunk: &[u8], line: &mut [u8], state: State) -> State {
-    let count = cases::within(state.read, chunk);
-    let read = &chunk[..count];
-    let mut next = state;
-    let mut i = state.taken;
-    while i < read.len() {
-        next.taken = i + 1;
-        if read[i] == LINE_FEED {
-            next.whole = true;
+// Takes a byte of the input. A line that is too long fills its room.
+fn take_byte(byte: u8, line: &mut [u8], held: Held) -> Held {
+    if byte == LINE_FEED {
+        return Held {
+            length: 0,
+            writable: answer(line, held.length),
+        };
+    }
+    Held {
+        length: put::byte(line, held.length, byte),
+        writable: true,
+    }
+}
+
+fn take_bytes(bytes: &[u8], line: &mut [u8], held: Held) -> Held {
+    let mut next = held;
+    let mut i = 0;
+    while i < bytes.len() {
+        next = take_byte(bytes[i], line, next);
+        if !next.writable {
             return next;
         }
-        next.length = put::byte(line, next.length, read[i]);
         i += 1;
     }
     next
 }
 
-// Writes the answers that wait. Where they fill their room to the end, some may be missing.
-fn written(answers: &[u8], waiting: usize) -> bool {
-    if answers.len() <= waiting {
-        io::write_all(STDERR_FILENO, b"probe: there is no room for an answer\n");
-        return false;
-    }
-    let count = cases::within(waiting, answers);
-    io::write_all(STDOUT_FILENO, &answers[..count])
-}
-
-// The state before the first line, or where nothing more can be done.
-fn empty(ended: bool) -> State {
-    State {
-        taken: 0,
-        read: 0,
-        length: 0,
-        whole: false,
-        waiting: 0,
-        ended,
-    }
-}
-
-// Once all that was read is taken, writes the answers and reads on. At the end of the input a line without its line feed
-// is whole.
-fn read_on(chunk: &mut [u8], answers: &[u8], state: State) -> State {
-    if state.taken < state.read {
-        return state;
-    }
-    if !written(answers, state.waiting) {
-        return empty(true);
-    }
-    let got = libc::read(STDIN_FILENO, chunk);
+// At the end of the input a line without its line feed is whole.
+fn take_end(got: isize, line: &[u8], length: usize) {
     if got < 0 {
         io::write_all(STDERR_FILENO, b"probe: standard input cannot be read\n");
-        return empty(true);
+        return;
     }
-    let mut next = state;
-    next.taken = 0;
-    next.read = io::count(got, chunk);
-    next.waiting = 0;
-    if got == 0 {
-        next.ended = true;
-        next.whole = 0 < state.length;
+    if 0 < length {
+        answer(line, length);
     }
-    next
 }
 
 // A proved loop has to end: it counts its turns down from a number that no run uses up.
-fn take_input(chunk: &mut [u8], line: &mut [u8], answers: &mut [u8]) {
-    let mut state = empty(false);
+fn take_input(chunk: &mut [u8], line: &mut [u8]) {
+    let mut held = Held {
+        length: 0,
+        writable: true,
+    };
     let mut turns = u64::MAX;
     while turns > 0 {
-        state = read_on(chunk, answers, state);
-        state = gather(chunk, line, state);
-        state = answer(line, answers, state);
-        if state.ended {
-            written(answers, state.waiting);
+        let got = libc::read(STDIN_FILENO, chunk);
+        if got <= 0 {
+            take_end(got, line, held.length);
+            return;
+        }
+        let count = io::count(got, chunk);
+        held = take_bytes(&chunk[..count], line, held);
+        if !held.writable {
             return;
         }
         turns -= 1;
@@ -176,15 +140,8 @@ fn line_room() -> [u8; 262144] {
     [0; 262144]
 }
 
-// More than the answers take to the 4,096 bytes that are read at once: less than 45 bytes for each of them, as for
-// `new-channel`, and the answer to a case that began before, which is hardly longer than the case.
-fn answers_room() -> [u8; 532480] {
-    [0; 532480]
-}
-
 fn main() {
     let mut chunk = io::buffer();
     let mut line = line_room();
-    let mut answers = answers_room();
-    take_input(&mut chunk, &mut line, &mut answers);
+    take_input(&mut chunk, &mut line);
 }

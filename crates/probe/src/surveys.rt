@@ -1,43 +1,41 @@
 // The survey's commands.
-use crate::cases::Numbers;
+use crate::cases::MOST;
 use crate::floats;
-use crate::told;
-use crate::told::Told;
+use crate::put;
 use band::Kilohertz;
 use log::Counts;
 use summary::Summary;
 
-pub(crate) fn khz(numbers: Numbers) -> Told {
-    let wide = numbers.wide;
-    let numbered = band::numbered(wide[0]);
+pub(crate) fn khz(number: u32) {
+    let numbered = band::numbered(number);
     let channel = numbered.channel;
     let told = band::to_kilohertz(channel);
     let answer = told.answer;
     let kilohertz = told.kilohertz;
-    told::answered(9, answer, kilohertz.0 as u64)
+    put::answer(b"khz", answer);
+    put::number(kilohertz.0 as u64);
 }
 
-pub(crate) fn channel(numbers: Numbers) -> Told {
-    let wide = numbers.wide;
-    let told = band::to_channel(Kilohertz(wide[0]));
+pub(crate) fn channel(frequency: u32) {
+    let told = band::to_channel(Kilohertz(frequency));
     let answer = told.answer;
     let channel = told.channel;
-    told::answered(10, answer, channel.0 as u64)
+    put::answer(b"channel", answer);
+    put::number(channel.0 as u64);
 }
 
-pub(crate) fn read_log(log: &[u8]) -> Told {
+pub(crate) fn read_log(log: &[u8]) {
     let read = log::read(log);
     let answer = read.answer;
     let counts = read.counts;
-    counted(told::refusal(answer), read.line, counts)
+    put::answer(b"log", answer);
+    put::number(read.line as u64);
+    put_counts(counts);
 }
 
-fn counted(refusal: u64, line: u32, counts: Counts) -> Told {
-    Told {
-        form: 11,
-        numbers: [
-            refusal,
-            line as u64,
+fn put_counts(counts: Counts) {
+    put::numbers(
+        &[
             counts.channel as u64,
             counts.slots as u64,
             counts.read as u64,
@@ -46,79 +44,51 @@ fn counted(refusal: u64, line: u32, counts: Counts) -> Told {
             counts.noword as u64,
             counts.check as u64,
             counts.missing as u64,
-            0,
-            0,
-            0,
-            0,
         ],
-    }
+    );
 }
 
 // The counts in the first eight arguments.
-fn counts_in(numbers: Numbers) -> Counts {
-    let small = numbers.small;
-    let wide = numbers.wide;
+pub(crate) fn counts_in(numbers: [u64; MOST]) -> Counts {
     Counts {
-        channel: small[0],
-        slots: wide[1],
-        read: wide[2],
-        clean: wide[3],
-        bits: wide[4],
-        noword: wide[5],
-        check: wide[6],
-        missing: wide[7],
+        channel: (numbers[0] % 256) as u8,
+        slots: (numbers[1] % 4294967296) as u32,
+        read: (numbers[2] % 4294967296) as u32,
+        clean: (numbers[3] % 4294967296) as u32,
+        bits: (numbers[4] % 4294967296) as u32,
+        noword: (numbers[5] % 4294967296) as u32,
+        check: (numbers[6] % 4294967296) as u32,
+        missing: (numbers[7] % 4294967296) as u32,
     }
 }
 
-pub(crate) fn summarise(numbers: Numbers) -> Told {
-    let summarised = summary::summarise(counts_in(numbers));
+pub(crate) fn summarise(counts: Counts) {
+    let summarised = summary::summarise(counts);
     let answer = summarised.answer;
     let record = summarised.summary;
-    let mean = floats::bits_of(record.mean);
-    let missing = floats::bits_of(record.missing);
-    let has_mean = record.mean_exists as u64;
-    let has_missing = record.missing_exists as u64;
-    Told {
-        form: 12,
-        numbers: [
-            told::refusal(answer),
-            has_mean,
-            mean,
-            has_missing,
-            missing,
-            0,
-            0,
-            0,
-            0,
-            0,
-            0,
-            0,
-            0,
-            0,
-        ],
-    }
+    put::answer(b"summary", answer);
+    floats::put(record.mean_exists, record.mean);
+    floats::put(record.missing_exists, record.missing);
 }
 
-pub(crate) fn report(numbers: Numbers, output: &mut [u8]) -> Told {
-    let written = summary::report(counts_in(numbers), output);
+pub(crate) fn report(counts: Counts, output: &mut [u8]) {
+    let written = summary::report(counts, output);
     let answer = written.answer;
-    told::answered(13, answer, written.length as u64)
+    put::filled(b"report", answer, written.length as u64, output);
 }
 
 // The summary in the arguments behind the counts.
-fn summary_in(numbers: Numbers) -> Summary {
-    let small = numbers.small;
-    let whole = numbers.whole;
+fn summary_in(numbers: [u64; MOST]) -> Summary {
     Summary {
-        mean_exists: small[8] == 1,
-        mean: floats::of_bits(whole[9]),
-        missing_exists: small[10] == 1,
-        missing: floats::of_bits(whole[11]),
+        mean_exists: numbers[8] == 1,
+        mean: floats::of_bits(numbers[9]),
+        missing_exists: numbers[10] == 1,
+        missing: floats::of_bits(numbers[11]),
     }
 }
 
-pub(crate) fn export(numbers: Numbers, output: &mut [u8]) -> Told {
+pub(crate) fn export(numbers: [u64; MOST], output: &mut [u8]) {
     let written = summary::export(counts_in(numbers), summary_in(numbers), output);
     let answer = written.answer;
-    told::answered(14, answer, written.length as u64)
+    put::filled(b"row", answer, written.length as u64, output);
 }

@@ -7,10 +7,10 @@ use Rattle.probe.proofs.cases.read_numbers.Statement.{statement}
 use Rattle.probe.proofs.cases.read_numbers.Tie as tie
 
 abbrev Inv-loop : tie.InvT-loop
-Inv-loop line row small₀ wide₀ whole₀ readable₀ i₀ small wide whole readable i = (i ≤ 14) × (length small ≡ 14) × (length wide ≡ 14) × (length whole ≡ 14)
+Inv-loop line row numbers₀ readable₀ i₀ numbers readable i = (i ≤ 14) × (length numbers ≡ 14)
 
 abbrev μ-loop : tie.MeasureT-loop
-μ-loop line row small₀ wide₀ whole₀ readable₀ i₀ small wide whole readable i = 14 - i
+μ-loop line row numbers₀ readable₀ i₀ numbers readable i = 14 - i
 
 arguments-requires : tie.Need-arguments-requires Inv-loop μ-loop
 arguments-requires c κs = search needs
@@ -21,26 +21,11 @@ loop-holds c = search needs
 read-at-requires : tie.Need-read-at-requires Inv-loop μ-loop
 read-at-requires c κs = search needs
 
-cast-small : tie.Need-cast-small Inv-loop μ-loop
-cast-small c = search needs
+mul-numbers : tie.Need-mul-numbers Inv-loop μ-loop
+mul-numbers c = search needs
 
-array-write-small : tie.Need-array-write-small Inv-loop μ-loop
-array-write-small c = search needs
-
-cast-wide : tie.Need-cast-wide Inv-loop μ-loop
-cast-wide c = search needs
-
-mul-wide : tie.Need-mul-wide Inv-loop μ-loop
-mul-wide c = search needs
-
-array-write-wide : tie.Need-array-write-wide Inv-loop μ-loop
-array-write-wide c = search needs
-
-mul-whole : tie.Need-mul-whole Inv-loop μ-loop
-mul-whole c = search needs
-
-array-write-whole : tie.Need-array-write-whole Inv-loop μ-loop
-array-write-whole c = search needs
+array-write-numbers : tie.Need-array-write-numbers Inv-loop μ-loop
+array-write-numbers c = search needs
 
 add-i : tie.Need-add-i Inv-loop μ-loop
 add-i c = search needs
@@ -49,7 +34,7 @@ loop-less : tie.Need-loop-less Inv-loop μ-loop
 loop-less c = search needs
 
 loop-again : tie.Need-loop-again Inv-loop μ-loop
-loop-again c = (search needs, search needs, search needs, search needs)
+loop-again c = (search needs, search needs)
 
 returns : tie.Need-returns Inv-loop μ-loop
 returns c = search needs
@@ -63,13 +48,8 @@ read-numbers-spec =
     arguments-requires
     loop-holds
     read-at-requires
-    cast-small
-    array-write-small
-    cast-wide
-    mul-wide
-    array-write-wide
-    mul-whole
-    array-write-whole
+    mul-numbers
+    array-write-numbers
     add-i
     loop-less
     loop-again
