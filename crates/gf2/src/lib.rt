@@ -1,13 +1,13 @@
 // Polynomials over the field of two elements, as rows of bits, highest power first: the ground of
 // document 01's three checks, of 6, 14 and 82 bits. A divisor x^d + .. is lent as the row of its d lower coefficients.
 ghost use mathlib.Core.Path.{_≡_};
-ghost use Prim.Native.Nat.{_-_, _≤_};
+ghost use Prim.Native.Nat.{_-_, _<_, _≤_};
 ghost use lib.ListN.{length};
 ghost use Rattle.gf2.specs.Poly.{bit, _⊕_, add, divided, allZero, elem, lower};
 
 // A bit as a number.
-pub fn number(b: bool) -> u8
-    ensures { λ r. ⌜ r ≡ bit b ⌝ }
+pub fn number(b: bool) -> u64
+    ensures { λ r. ⌜ (r ≡ bit b) × (r < 2) ⌝ }
 {
     if b { 1 } else { 0 }
 }

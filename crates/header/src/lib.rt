@@ -42,7 +42,7 @@ fn value(row: &[bool]) -> u64
     let mut sum: u64 = 0;
     let mut i: usize = 0;
     while i < row.len() {
-        sum = sum * 2 + gf2::number(row[i]) as u64;
+        sum = sum * 2 + gf2::number(row[i]);
         i += 1;
     }
     sum

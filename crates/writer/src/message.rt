@@ -94,20 +94,14 @@ fn pack(fields: Fields, length: usize) -> u64
     ensures { λ r. ⌜ (r ≡ packed (layer4 (leb 512 (fields .number))) (valuesOf (headerFor fields length))) × (r < 2 ^ total (layer4 (leb 512 (fields .number)))) ⌝ }
 {
     let number = fields.number as u64;
-    let front = (((fields.ri as u64) * 4 + (fields.ci as u64)) * 2 + one(fields.first)) * 2
-        + one(fields.last);
-    let back = one(fields.command) * 512 + (length as u64);
+    let front = (((fields.ri as u64) * 4 + (fields.ci as u64)) * 2 + gf2::number(fields.first)) * 2
+        + gf2::number(fields.last);
+    let back = gf2::number(fields.command) * 512 + (length as u64);
     if with_ext(fields.number) {
         ((front * 1024 + 512 + number % 512) * 32 + number / 512) * 8192 + back
     } else {
         (front * 1024 + number) * 1024 + back
     }
-}
-
-fn one(b: bool) -> u64
-    ensures { λ r. ⌜ (r ≡ bit b) × (r < 2) ⌝ }
-{
-    if b { 1 } else { 0 }
 }
 
 // Fields, and their check behind them.
@@ -151,5 +145,5 @@ fn block_header(di: bool, lf: bool, sc: u8) -> u64
     requires { ⌜ sc < 16 ⌝ }
     ensures { λ r. ⌜ r ≡ header layer3 (10 ∷ bit di ∷ bit lf ∷ sc ∷ []) ⌝ }
 {
-    with_check(((20 + one(di)) * 2 + one(lf)) * 16 + (sc as u64))
+    with_check(((20 + gf2::number(di)) * 2 + gf2::number(lf)) * 16 + (sc as u64))
 }

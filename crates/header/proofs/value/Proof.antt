@@ -1,6 +1,5 @@
 -- `header::value`: what the bits so far are, with those from place i on behind them, is the whole number. Assumes nothing.
 use mathlib.Core.Bool.{false}
-use Rattle.gf2.proofs.Bits.{bit-lt}
 use Rattle.header.proofs.Bits.{value-turn, six-bits}
 use Rattle.header.specs.Check.{number, onto}
 use lib.ListN.{length, getD, drop, drop-of-length-le}
@@ -29,13 +28,10 @@ shared-slice-read-number c = search needs
 number-requires : tie.Need-number-requires Inv-loop μ-loop
 number-requires c κs = search needs
 
-cast-sum : tie.Need-cast-sum Inv-loop μ-loop
-cast-sum c = search needs
-
 add-sum : tie.Need-add-sum Inv-loop μ-loop
 add-sum c =
     let l = c .before .before .before .loop in
-    omega (arith, six-bits (l .i) (omega arith), bit-lt (getD (c .before .before .before .before .before .args .row .now) (l .i) false))
+    omega (arith, six-bits (l .i) (omega arith), c .number .ensures .1)
 
 add-i : tie.Need-add-i Inv-loop μ-loop
 add-i c = search needs
@@ -48,7 +44,7 @@ loop-again c =
     let row = c .before .before .before .before .before .args .row .now in
     let l = c .before .before .before .loop in
     let t = value-turn row _ (l .sum) (l .i) (omega arith) (l .inv .1) (l .inv .2) in
-    (omega arith, rw (c .number .ensures) (t .1), rw (c .number .ensures) (t .0))
+    (omega arith, rw (c .number .ensures .0) (t .1), rw (c .number .ensures .0) (t .0))
 
 returns : tie.Need-returns Inv-loop μ-loop
 returns c =
@@ -66,7 +62,6 @@ value-spec =
     mul-sum
     shared-slice-read-number
     number-requires
-    cast-sum
     add-sum
     add-i
     loop-less

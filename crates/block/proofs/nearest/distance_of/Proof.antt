@@ -1,6 +1,5 @@
 -- `block::nearest::distance_of`: the places before `place` are counted, the rest is left. Assumes nothing.
 use Rattle.block.proofs.Turns.{distance-turn, distance-end}
-use Rattle.gf2.proofs.Bits.{bit-lt}
 use Rattle.gf2.specs.Poly.{bit}
 use Rattle.code.specs.Code.{distance}
 use lib.ListN.{drop}
@@ -34,9 +33,6 @@ sum-requires c κs = search needs
 number-requires : tie.Need-number-requires Inv-loop μ-loop
 number-requires c κs = search needs
 
-cast-count : tie.Need-cast-count Inv-loop μ-loop
-cast-count c = search needs
-
 add-count : tie.Need-add-count Inv-loop μ-loop
 add-count c = search needs
 
@@ -51,9 +47,9 @@ loop-again c =
     let h = c .before .before .before .before .before in
     let a = h .before .args in (
       search needs,
-      omega (arith, c .number .ensures, bit-lt (c .before .sum .result)),
+      omega (arith, c .number .ensures .1),
       distance-turn (a .row .now) (a .word .now) (h .loop .place) (h .loop .count) _ (h .loop .inv .2) (c .number .result) (omega arith) (omega arith)
-          (c .number .ensures ∙ ap bit (c .before .sum .ensures)),
+          (c .number .ensures .0 ∙ ap bit (c .before .sum .ensures)),
     )
 
 returns : tie.Need-returns Inv-loop μ-loop
@@ -70,7 +66,6 @@ distance-of-spec =
     element-copy-out-sum-2
     sum-requires
     number-requires
-    cast-count
     add-count
     add-place
     loop-less

@@ -1,7 +1,6 @@
 -- `block::nearest::odd_sums`: the sums at the first l positions are counted, the rest is left. Assumes nothing.
 use mathlib.Core.Bool.{false}
 use Rattle.block.proofs.Turns.{position-below, sum-turn, sum-end}
-use Rattle.gf2.proofs.Bits.{bit-lt}
 use Rattle.code.proofs.Computed.{positions-length}
 use Rattle.code.specs.Vote.{bitAt, sumOver, checkPositions, oddSums}
 use Rattle.gf2.specs.Poly.{bit}
@@ -45,9 +44,6 @@ element-copy-out-number-2 c = search needs
 number-requires : tie.Need-number-requires Inv-loop μ-loop
 number-requires c κs = search needs
 
-cast-odd : tie.Need-cast-odd Inv-loop μ-loop
-cast-odd c = search needs
-
 add-odd : tie.Need-add-odd Inv-loop μ-loop
 add-odd c = search needs
 
@@ -62,10 +58,10 @@ loop-again c =
     let h = c .before .before .before .before in
     let a = h .before .args in (
       search needs,
-      omega (arith, c .number .ensures, bit-lt (getD (a .sums .now) ((a .p + 273 - getD (a .positions .now) (h .loop .l) 0) % 273) false)),
+      omega (arith, c .number .ensures .1),
       sum-turn (λ s. bit (bitAt (a .sums .now) ((a .p + 273 - s) % 273))) checkPositions (h .loop .l) (h .loop .odd) _ (h .loop .inv .2) (c .number .result)
           (omega (arith, positions-length))
-          (c .number .ensures ∙ ap (λ ps. bit (bitAt (a .sums .now) ((a .p + 273 - getD ps (h .loop .l) 0) % 273))) (h .before .pre .1)),
+          (c .number .ensures .0 ∙ ap (λ ps. bit (bitAt (a .sums .now) ((a .p + 273 - getD ps (h .loop .l) 0) % 273))) (h .before .pre .1)),
     )
 
 returns : tie.Need-returns Inv-loop μ-loop
@@ -84,7 +80,6 @@ odd-sums-spec =
     sub-number
     element-copy-out-number-2
     number-requires
-    cast-odd
     add-odd
     add-l
     loop-less

@@ -1,7 +1,6 @@
 -- `block::rows::byte_at`: the places from j on are in the byte. Assumes nothing.
 use native.Mathlib.Nat.{add-zero}
 use Rattle.block.proofs.Turns.{byte-turn, byte-small}
-use Rattle.gf2.proofs.Bits.{bit-lt}
 use Rattle.block.specs.Bytes.{packed}
 use lib.ListN.{getD, take, drop}
 use lib.Dec.{lit≤}
@@ -34,6 +33,9 @@ shared-slice-read-number c = search needs
 number-requires : tie.Need-number-requires Inv-loop μ-loop
 number-requires c κs = search needs
 
+cast-byte : tie.Need-cast-byte Inv-loop μ-loop
+cast-byte c = search needs
+
 mul-byte : tie.Need-mul-byte Inv-loop μ-loop
 mul-byte c =
     let h = c .before .before .before in
@@ -46,8 +48,7 @@ add-byte c =
       arith,
       h .loop .inv .1,
       byte-small (h .loop .j) (drop (h .before .before .args .at + h .loop .j) (h .before .before .args .row .now)) (omega arith),
-      c .number .ensures,
-      bit-lt (getD (h .before .before .args .row .now) (h .before .before .args .at + (h .loop .j - 1)) false),
+      c .number .ensures .1,
     )
 
 loop-less : tie.Need-loop-less Inv-loop μ-loop
@@ -58,7 +59,7 @@ loop-again c =
     let h = c .before .before .before in
     let a = h .before .before .args in (
       search needs,
-      byte-turn (a .row .now) (a .at) (h .loop .j) (c .number .result) (h .loop .byte) (omega arith) (omega arith) (omega arith) (c .number .ensures) (h .loop .inv .1),
+      byte-turn (a .row .now) (a .at) (h .loop .j) (c .number .result) (h .loop .byte) (omega arith) (omega arith) (omega arith) (c .number .ensures .0) (h .loop .inv .1),
     )
 
 returns : tie.Need-returns Inv-loop μ-loop
@@ -78,6 +79,7 @@ byte-at-spec =
     add-number
     shared-slice-read-number
     number-requires
+    cast-byte
     mul-byte
     add-byte
     loop-less
