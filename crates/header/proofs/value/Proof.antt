@@ -1,8 +1,7 @@
 -- `header::value`: what the bits so far are, with those from place i on behind them, is the whole number. Assumes nothing.
-use mathlib.Core.Bool.{false}
 use Rattle.header.proofs.Bits.{value-turn, six-bits}
 use Rattle.header.specs.Check.{number, onto}
-use lib.ListN.{length, getD, drop, drop-of-length-le}
+use lib.ListN.{length, drop, drop-of-length-le}
 use borrow.Author.Needs.{needs}
 use native.Mathlib.Omega.{arith}
 use mathlib.Core.Path.{_≡_, refl, sym, ap, _∙_}

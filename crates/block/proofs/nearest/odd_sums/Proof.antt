@@ -1,5 +1,4 @@
 -- `block::nearest::odd_sums`: the sums at the first l positions are counted, the rest is left. Assumes nothing.
-use mathlib.Core.Bool.{false}
 use Rattle.block.proofs.Turns.{position-below, sum-turn, sum-end}
 use Rattle.code.proofs.Computed.{positions-length}
 use Rattle.code.specs.Vote.{bitAt, sumOver, checkPositions, oddSums}

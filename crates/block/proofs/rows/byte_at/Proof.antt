@@ -2,12 +2,11 @@
 use native.Mathlib.Nat.{add-zero}
 use Rattle.block.proofs.Turns.{byte-turn, byte-small}
 use Rattle.block.specs.Bytes.{packed}
-use lib.ListN.{getD, take, drop}
+use lib.ListN.{take, drop}
 use lib.Dec.{lit≤}
 use borrow.Author.Needs.{needs}
 use native.Mathlib.Omega.{arith}
 use Prim.Native.Nat.{ℕ, _≤_, _-_, _+_}
-use mathlib.Core.Bool.{false}
 use mathlib.Core.Path.{_≡_, refl, ap, _∙_}
 use Rattle.block.proofs.rows.byte_at.Statement.{statement}
 use Rattle.block.proofs.rows.byte_at.Tie as tie
