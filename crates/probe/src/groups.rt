@@ -7,8 +7,8 @@ use group::Phase;
 use group::Step;
 use writer::Series;
 
-pub(crate) fn new_group(number: u16) {
-    let made = Group::new(number);
+pub(crate) fn new_group(number: u64) {
+    let made = Group::new((number % 65536) as u16);
     let answer = made.answer;
     let group = made.group;
     put::answer(b"fresh", answer);
@@ -30,14 +30,12 @@ pub(crate) fn join(numbers: [u64; MOST], data: &[u8], buffer: &mut [u8]) {
 fn put_answer(answer: Step) {
     match answer {
         Step::Taken => put::word(b"taken"),
-        Step::Whole(length) => put_whole(length),
+        Step::Whole(length) => {
+            put::word(b"group");
+            put::number(length as u64);
+        }
         Step::Refused(refusal) => put::refusal(refusal),
     }
-}
-
-fn put_whole(length: usize) {
-    put::word(b"group");
-    put::number(length as u64);
 }
 
 // The state in the first five arguments.

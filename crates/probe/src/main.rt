@@ -43,9 +43,9 @@ fn call_plain(command: usize, numbers: [u64; MOST], given: &[u8], lent: &[u8]) {
     match command {
         3 => messages::put_state(Channel::new()),
         4 => messages::step(numbers, given, lent),
-        6 => groups::new_group((numbers[0] % 65536) as u16),
-        9 => surveys::khz((numbers[0] % 4294967296) as u32),
-        10 => surveys::channel((numbers[0] % 4294967296) as u32),
+        6 => groups::new_group(numbers[0]),
+        9 => surveys::khz(numbers[0]),
+        10 => surveys::channel(numbers[0]),
         11 => surveys::read_log(given),
         12 => surveys::summarise(surveys::counts_in(numbers)),
         _ => put::word(b"bad case"),

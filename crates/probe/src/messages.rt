@@ -3,8 +3,6 @@ ghost use Prim.Native.Nat.{_<_};
 use crate::cases::MOST;
 use crate::put;
 use channel::Channel;
-use channel::Fields;
-use channel::Header;
 use channel::Phase;
 use channel::Step;
 
@@ -52,26 +50,24 @@ fn phase_of(number: u64) -> Phase {
 fn put_answer(answer: Step) {
     match answer {
         Step::Taken => put::word(b"taken"),
-        Step::Message(header) => put_header(header),
+        Step::Message(header) => {
+            put::word(b"message");
+            put::numbers(
+                &[
+                    header.ri as u64,
+                    header.ci as u64,
+                    header.first as u64,
+                    header.last as u64,
+                    header.ext as u64,
+                    header.number as u64,
+                    header.command as u64,
+                    header.length as u64,
+                    header.size as u64,
+                ],
+            );
+        }
         Step::Refused(refusal) => put::refusal(refusal),
     }
-}
-
-fn put_header(header: Header) {
-    put::word(b"message");
-    put::numbers(
-        &[
-            header.ri as u64,
-            header.ci as u64,
-            header.first as u64,
-            header.last as u64,
-            header.ext as u64,
-            header.number as u64,
-            header.command as u64,
-            header.length as u64,
-            header.size as u64,
-        ],
-    );
 }
 
 pub(crate) fn put_state(channel: Channel) {

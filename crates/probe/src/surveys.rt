@@ -6,8 +6,8 @@ use band::Kilohertz;
 use log::Counts;
 use summary::Summary;
 
-pub(crate) fn khz(number: u32) {
-    let numbered = band::numbered(number);
+pub(crate) fn khz(number: u64) {
+    let numbered = band::numbered((number % 4294967296) as u32);
     let channel = numbered.channel;
     let told = band::to_kilohertz(channel);
     let answer = told.answer;
@@ -16,8 +16,8 @@ pub(crate) fn khz(number: u32) {
     put::number(kilohertz.0 as u64);
 }
 
-pub(crate) fn channel(frequency: u32) {
-    let told = band::to_channel(Kilohertz(frequency));
+pub(crate) fn channel(frequency: u64) {
+    let told = band::to_channel(Kilohertz((frequency % 4294967296) as u32));
     let answer = told.answer;
     let channel = told.channel;
     put::answer(b"channel", answer);
@@ -29,13 +29,9 @@ pub(crate) fn read_log(log: &[u8]) {
     let answer = read.answer;
     let counts = read.counts;
     put::answer(b"log", answer);
-    put::number(read.line as u64);
-    put_counts(counts);
-}
-
-fn put_counts(counts: Counts) {
     put::numbers(
         &[
+            read.line as u64,
             counts.channel as u64,
             counts.slots as u64,
             counts.read as u64,
