@@ -3,6 +3,7 @@ ghost use Prim.Native.Nat.{_<_};
 use crate::cases::MOST;
 use crate::put;
 use channel::Channel;
+use channel::Fields;
 use channel::Phase;
 use channel::Step;
 
