@@ -12,27 +12,27 @@ use lib.ListN.{length, take, drop, replicate, length-append, length-take, length
 use lib.Seq.{paste, length-paste, take-all}
 use Rattle.channel.specs.Answers as channel
 use Rattle.channel.specs.Layer4.{sizeOf, blocksFor}
-use Rattle.writer.specs.Reading.{answersOf, channelAfter, Listens, messageIn, handOn, messagesRead, GroupBack}
 use Rattle.channel.specs.State.{stepOf}
-use Rattle.writer.specs.Message.{headerFor, messageBlocks}
 use Rattle.channel.specs.declared.Channel.{Channel}
 use Rattle.channel.specs.declared.Header.{Header}
 use Rattle.channel.proofs.Laws.{rule-sc}
-use Rattle.writer.proofs.ReadBack.{read-back, after-append}
 use Rattle.group.specs.Answers.{Outcome, taken, whole, Left, leaves}
 use Rattle.group.specs.State.{groupOf, idle, keepsRule, within, joinedOn, joinOf}
 use Rattle.group.specs.Leading.{Message, answersTo, groupAfter, bufferAfter}
-use Rattle.writer.specs.Group.{groupFields, messagesOf, blocksOf, groupBlocks}
-use Rattle.writer.specs.Group as groups
 use Rattle.group.specs.declared.Group.{Group}
 use Rattle.group.specs.declared.Phase.the-variants.{Gathering}
-use Rattle.writer.specs.declared.Series.{Series}
 use Rattle.group.proofs.Joining.{joins}
+use Rattle.group.proofs.Rule.{gathering-rule}
+use Rattle.group.proofs.Leading.{front}
+use Rattle.writer.specs.Reading.{answersOf, channelAfter, Listens, messageIn, handOn, messagesRead, GroupBack}
+use Rattle.writer.specs.Message.{headerFor, messageBlocks}
+use Rattle.writer.specs.Group.{groupFields, messagesOf, blocksOf, groupBlocks}
+use Rattle.writer.specs.Group as groups
+use Rattle.writer.specs.declared.Series.{Series}
+use Rattle.writer.proofs.ReadBack.{read-back, after-append}
 use Rattle.writer.proofs.Laws.{within-true}
 use Rattle.writer.proofs.Writing.{message-count}
 use Rattle.writer.proofs.GroupWriting.{series-bounds, full-messages}
-use Rattle.group.proofs.Rule.{gathering-rule}
-use Rattle.group.proofs.Leading.{front}
 
 -- ---- the channel: blocks to messages
 

@@ -15,11 +15,11 @@ use Rattle.gf2.proofs.Lists.{tail-lent, tail-back}
 use Rattle.channel.specs.Layer4.{sizeOf, blocksFor}
 use Rattle.writer.specs.Message.{messageBlocks, flat, Written, written, Writes}
 use Rattle.writer.specs.Message as message
+use Rattle.writer.specs.Group.{within, groupFields, messagesOf, blocksOf, messagesFor}
 use Rattle.writer.specs.declared.Wrote.{Wrote}
+use Rattle.writer.specs.declared.Series.{Series}
 use Rattle.writer.proofs.Laws.{size-room, within-true}
 use Rattle.writer.proofs.Writing.{flat-append, message-count, message-flat, message-small}
-use Rattle.writer.specs.Group.{within, groupFields, messagesOf, blocksOf, messagesFor}
-use Rattle.writer.specs.declared.Series.{Series}
 
 -- what the group writer takes
 pub series-bounds : (x : Series) (n : ℕ) → within x n ≡ true → (x .number ≤ 16383) × (x .ri ≤ 3) × (x .sc ≤ 15) × (x .ci ≤ 3) × (n ≤ 3825)

@@ -15,10 +15,8 @@ use Rattle.header.proofs.Bits.{check-fits}
 use Rattle.header.proofs.Fields.{header-read, check-holds, packed-lt, bytes-number}
 use Rattle.channel.specs.Answers.{Outcome, taken, message, leaves, Left}
 use Rattle.channel.specs.Layer3.{layer3, headerOf}
-use Rattle.writer.specs.Message.{blockOf, headerFor, headerBytes, blocksOf, messageBytes, cut, messageBlocks, within}
 use Rattle.channel.specs.Layer4.{sizeOf, messageOf, openedAt}
 use Rattle.channel.specs.State.{keepsRule, phaseHolds, channelOf, joined, followed, inPhase, advanced, stepOf}
-use Rattle.writer.specs.Reading.{answersOf, channelAfter, Listens, ReadBack}
 use Rattle.channel.specs.declared.Header.{Header}
 use Rattle.channel.specs.declared.Channel.{Channel}
 use Rattle.channel.specs.declared.layer4.Opened.{Opened}
@@ -26,8 +24,10 @@ use Rattle.channel.specs.declared.Phase.{Phase}
 use Rattle.channel.specs.declared.Phase.the-variants.{Waiting, Ready, Gathering}
 use Rattle.channel.specs.declared.Fields.{Fields}
 use Rattle.channel.proofs.Laws.{rule-bytes, rule-sc}
-use Rattle.writer.proofs.Laws.{within-widths, size-room}
 use Rattle.channel.proofs.Rule.{next-rule, ready-rule}
+use Rattle.writer.specs.Message.{blockOf, headerFor, headerBytes, blocksOf, messageBytes, cut, messageBlocks, within}
+use Rattle.writer.specs.Reading.{answersOf, channelAfter, Listens, ReadBack}
+use Rattle.writer.proofs.Laws.{within-widths, size-room}
 use Rattle.writer.proofs.Writing.{paste-paste, header-length, message-length}
 use Rattle.writer.proofs.HeaderBack.{Right, bit-is, message-back, header-back}
 

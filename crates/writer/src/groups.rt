@@ -5,7 +5,7 @@ ghost use mathlib.Core.Path.{_≡_};
 ghost use Prim.Native.Nat.{_+_, _≤_, min};
 ghost use lib.ListN.{length, drop};
 ghost use Rattle.writer.specs.Message.{flat};
-ghost use Rattle.writer.specs.Group.{within, messagesFor, seriesBlocks};
+ghost use Rattle.writer.specs.Group.{within, groupFields, messagesFor, seriesBlocks};
 use crate::Series;
 use channel::Fields;
 use channel::INFORMATION_BYTES;
@@ -55,14 +55,7 @@ pub(crate) fn put_messages(series: Series, messages: usize, data: &[u8], output:
     while 0 < left {
         left -= 1;
         let end = part_end(from, data.len());
-        let fields = Fields {
-            ri: series.ri,
-            ci,
-            first,
-            last: left == 0,
-            number: series.number,
-            command: false,
-        };
+        let fields = fields_of(series, ci, first, left == 0);
         let wrote = crate::write_message(
             fields,
             series.di,
@@ -76,6 +69,19 @@ pub(crate) fn put_messages(series: Series, messages: usize, data: &[u8], output:
         first = false;
         from = end;
         to += INFORMATION_BYTES * blocks;
+    }
+}
+
+fn fields_of(series: Series, ci: u8, first: bool, last: bool) -> Fields
+    ensures { λ r. ⌜ r ≡ groupFields (series .number) (series .ri) ci first last ⌝ }
+{
+    Fields {
+        ri: series.ri,
+        ci,
+        first,
+        last,
+        number: series.number,
+        command: false,
     }
 }
 

@@ -9,10 +9,10 @@ use borrow.Author.Tests.{le-leb, lt-leb, not-true, not-false}
 use lib.Dec.{leb}
 use lib.ListN.{length, drop}
 use Rattle.answers.specs.declared.Refusal.the-variants.{OutsideRule, TooShort}
-use Rattle.writer.specs.Message.{flat}
 use Rattle.channel.specs.Layer4.{sizeOf, blocksFor}
-use Rattle.writer.proofs.Writing.{none-written, all-written}
+use Rattle.writer.specs.Message.{flat}
 use Rattle.writer.specs.Group.{within, seriesBlocks, groupBlocks, writeGroupOf}
+use Rattle.writer.proofs.Writing.{none-written, all-written}
 use Rattle.writer.proofs.GroupWriting.{series-bounds, series-flat, series-count, full-messages}
 use borrow.Author.Needs.{needs}
 use Rattle.writer.proofs.write_group.Statement.{statement}

@@ -6,11 +6,11 @@ use mathlib.Core.Path.{sym, ap, ap₂, _∙_, _≡_, refl}
 use borrow.Rule.Slice.PartMut.{putMid}
 use lib.Seq.{length-take-le}
 use lib.ListN.{take-append-drop, length, take, drop}
-use Rattle.writer.proofs.GroupWriting.{series-bounds, turn}
-use borrow.Author.Needs.{needs}
+use native.Mathlib.Omega.{arith}
 use Rattle.writer.specs.Group.{messagesOf, blocksOf, seriesBlocks}
 use Rattle.writer.specs.Message.{flat}
-use native.Mathlib.Omega.{arith}
+use Rattle.writer.proofs.GroupWriting.{series-bounds, turn}
+use borrow.Author.Needs.{needs}
 use Rattle.writer.proofs.groups.put_messages.Statement.{statement}
 use Rattle.writer.proofs.groups.put_messages.Tie as tie
 
@@ -25,21 +25,21 @@ abbrev μ-loop : tie.MeasureT-loop
 
 -- the message that a turn writes
 turned : (c : tie.After-write-message Inv-loop μ-loop) →
-    let l = c .before .before .before .before .before .loop in
-    let a = c .before .before .before .before .before .before .before .before .args in
+    let l = c .before .before .before .before .before .before .loop in
+    let a = c .before .before .before .before .before .before .before .before .before .args in
     let back = putMid (l .to) (length (l .output) - l .to) (l .output) (c .write-message .last .1 .1 .1 .1 .0) in
     let n = c .write-message .result .blocks in
     (n ≤ 13) × (l .to + 22 * n ≤ length (l .output)) × (length back ≡ length (l .output))
     × (flat (seriesBlocks (a .series) (a .messages) (a .«data» .now)) ≡ take (l .to + 22 * n) back
-    ++ flat (blocksOf (a .series .di) ((l .sc + n) % 16) (messagesOf (l .left - 1) false (a .series .number) (a .series .ri) ((l .ci + 1) % 4) (drop (c .before .before .before .part-end .result) (a .«data» .now)))))
+    ++ flat (blocksOf (a .series .di) ((l .sc + n) % 16) (messagesOf (l .left - 1) false (a .series .number) (a .series .ri) ((l .ci + 1) % 4) (drop (c .before .before .before .before .part-end .result) (a .«data» .now)))))
     × (drop (l .to + 22 * n) back ≡ drop (l .to + 22 * n) (a .output .now))
 turned c =
-    let l = c .before .before .before .before .before .loop in
-    let k = c .before .before .before .before .before .before .before .before in
+    let l = c .before .before .before .before .before .before .loop in
+    let k = c .before .before .before .before .before .before .before .before .before in
     let a = k .args in
-    turn (a .series) (a .«data» .now) (l .output) (a .output .now) (flat (seriesBlocks (a .series) (a .messages) (a .«data» .now))) (l .first) (l .sc) (l .ci) (l .from) (l .to) (c .before .before .before .part-end .result)
-    (k .pre .0) (l .inv .2) (l .inv .3) (l .inv .0) (c .before .before .before .part-end .ensures) (l .inv .1) (omega (arith, k .pre .1, l .inv .4)) (l .inv .6) (c .write-message .result) _
-    (l .left) (c .before .before .before .before .loop-test .taken) (l .inv .5) (c .write-message .ensures)
+    turn (a .series) (a .«data» .now) (l .output) (a .output .now) (flat (seriesBlocks (a .series) (a .messages) (a .«data» .now))) (l .first) (l .sc) (l .ci) (l .from) (l .to) (c .before .before .before .before .part-end .result)
+    (k .pre .0) (l .inv .2) (l .inv .3) (l .inv .0) (c .before .before .before .before .part-end .ensures) (l .inv .1) (omega (arith, k .pre .1, l .inv .4)) (l .inv .6) (c .write-message .result) _
+    (l .left) (c .before .before .before .before .before .loop-test .taken) (l .inv .5) (rw (c .before .before .before .fields-of .ensures) at (c .write-message .ensures))
 
 loop-holds : tie.Need-loop-holds Inv-loop μ-loop
 loop-holds c =
@@ -54,6 +54,9 @@ part-end-requires : tie.Need-part-end-requires Inv-loop μ-loop
 part-end-requires c κs =
     let k = c .before .before .before .before in
     (c .before .loop .inv .0, series-bounds (k .args .series) (length (k .args .«data» .now)) (k .pre .0) .4)
+
+fields-of-requires : tie.Need-fields-of-requires Inv-loop μ-loop
+fields-of-requires c κs = search needs
 
 sub-write-message : tie.Need-sub-write-message Inv-loop μ-loop
 sub-write-message c = omega arith
@@ -100,7 +103,7 @@ loop-less c = omega arith
 loop-again : tie.Need-loop-again Inv-loop μ-loop
 loop-again c =
     let t = turned (c .before .before) in
-    let l = c .before .before .before .before .before .before .before .loop in
+    let l = c .before .before .before .before .before .before .before .before .loop in
     (omega arith, omega arith, omega arith, omega arith, t .2 ∙ l .inv .4, t .3, t .4)
 
 same-length : tie.Need-same-length Inv-loop μ-loop
@@ -125,6 +128,7 @@ put-messages-spec =
     loop-holds
     sub-left
     part-end-requires
+    fields-of-requires
     sub-write-message
     part-write-message-start
     part-write-message-end

@@ -1,6 +1,6 @@
 -- `writer::groups::within_widths` makes the tests on a series one by one. Assumes nothing.
-use Rattle.writer.specs.Group.{within}
 use borrow.Author.Tests.{le-leb, lt-leb}
+use Rattle.writer.specs.Group.{within}
 use Rattle.writer.proofs.groups.within_widths.Statement.{statement}
 use Rattle.writer.proofs.groups.within_widths.Tie as tie
 
