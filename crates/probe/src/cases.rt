@@ -8,10 +8,13 @@ use text::Number;
 // The commands, and for each the kinds of its arguments: a number below 256 (s), 65,536 (m) or 2^32 (w), a flag (f), the
 // phase of a channel (p) or of a group (g), a binary64 (d), bytes (i), a log (l), the bytes of a channel (c), an output (o).
 const NAMES: [u8; 126] =
-    *b"correct\tread-block\twrite-block\tnew-channel\tstep\twrite-message\tnew-group\tjoin\twrite-group\tkhz\tchannel\tlog\tsummary\treport\texport";
+    *b"correct\tread-block\twrite-block\twrite-message\tjoin\twrite-group\treport\texport\tnew-channel\tstep\tnew-group\tkhz\tchannel\tlog\tsummary";
 
 const ROWS: [u8; 89] =
-    *b"io\tio\tio\t\tcwpsi\tssffmffsio\tm\tmgwssssffmfio\tmsfssio\tm\tw\tl\tswwwwwww\tswwwwwwwo\tswwwwwwwfdfdo";
+    *b"io\tio\tio\tssffmffsio\tmgwssssffmfio\tmsfssio\tswwwwwwwo\tswwwwwwwfdfdo\t\tcwpsi\tm\tm\tw\tl\tswwwwwww";
+
+// The first so many commands write to what they are lent.
+pub const FILLING: usize = 8;
 
 // One more than a case has arguments.
 pub const MOST: usize = 14;
@@ -59,8 +62,8 @@ pub(crate) fn read(line: &[u8], given: &mut [u8], lent: &mut [u8]) -> Case {
     let command = word(text::field(line, 0), &NAMES);
     let row = text::field(&ROWS, command.number as usize);
     let numbers = read_numbers(line, row);
-    let input = read_bytes(line, place_of(row, b'i', b'l'), given);
-    let output = read_bytes(line, place_of(row, b'o', b'c'), lent);
+    let input = read_bytes(line, row, b'i', b'l', given);
+    let output = read_bytes(line, row, b'o', b'c', lent);
     case_of(command, numbers, input, output)
 }
 
@@ -182,12 +185,13 @@ fn place_of(row: &[u8], one: u8, other: u8) -> usize {
     0
 }
 
-// Reads the bytes of an argument. Where there is none, the room has the bytes that a channel needs.
-fn read_bytes(line: &[u8], place: usize, room: &mut [u8]) -> Argument {
+// Reads the bytes of the argument of one of two kinds. Where there is none, there are no bytes.
+fn read_bytes(line: &[u8], row: &[u8], one: u8, other: u8, room: &mut [u8]) -> Argument {
+    let place = place_of(row, one, other);
     if place == 0 {
         return Argument {
             readable: true,
-            number: CHANNEL as u64,
+            number: 0,
         };
     }
     bytes(text::field(line, place), room)

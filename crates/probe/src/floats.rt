@@ -43,7 +43,7 @@ pub(crate) fn of_bits(bits: u64) -> f64 {
 // Writes whether a number exists, and the number.
 pub(crate) fn put(exists: bool, float: f64) {
     put::number(exists as u64);
-    put::word(b"\t");
+    put::tab();
     if float != float {
         put::word(b"nnnnnnnnnnnnnnnn");
         return;

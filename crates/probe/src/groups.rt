@@ -23,8 +23,6 @@ pub(crate) fn join(numbers: [u64; MOST], data: &[u8], buffer: &mut [u8]) {
     let next = stepped.group;
     put_answer(answer);
     put_state(next);
-    put::word(b"\t");
-    put::bytes(buffer);
 }
 
 fn put_answer(answer: Step) {
@@ -84,5 +82,5 @@ fn series_in(numbers: [u64; MOST]) -> Series {
 pub(crate) fn write_group(numbers: [u64; MOST], data: &[u8], output: &mut [u8]) {
     let wrote = writer::write_group(series_in(numbers), data, output);
     let answer = wrote.answer;
-    put::filled(b"written", answer, wrote.blocks as u64, output);
+    put::counted(b"written", answer, wrote.blocks as u64);
 }

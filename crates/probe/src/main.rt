@@ -9,6 +9,7 @@ mod put;
 mod surveys;
 
 ghost use Rattle.io.specs.Counts.{Counts};
+use cases::FILLING;
 use cases::MOST;
 use channel::Channel;
 use libc::STDERR_FILENO;
@@ -29,25 +30,25 @@ fn call(command: usize, numbers: [u64; MOST], given: &[u8], lent: &mut [u8]) {
         0 => blocks::correct(given, lent),
         1 => blocks::read_block(given, lent),
         2 => blocks::write_block(given, lent),
-        5 => messages::write_message(numbers, given, lent),
-        7 => groups::join(numbers, given, lent),
-        8 => groups::write_group(numbers, given, lent),
-        13 => surveys::report(surveys::counts_in(numbers), lent),
-        14 => surveys::export(numbers, lent),
+        3 => messages::write_message(numbers, given, lent),
+        4 => groups::join(numbers, given, lent),
+        5 => groups::write_group(numbers, given, lent),
+        6 => surveys::report(surveys::counts_in(numbers), lent),
+        7 => surveys::export(numbers, lent),
         _ => call_plain(command, numbers, given, lent),
     }
 }
 
-// The commands that change nothing that is lent.
+// The commands that write to nothing that is lent.
 fn call_plain(command: usize, numbers: [u64; MOST], given: &[u8], lent: &[u8]) {
     match command {
-        3 => messages::put_state(Channel::new()),
-        4 => messages::step(numbers, given, lent),
-        6 => groups::new_group(numbers[0]),
-        9 => surveys::khz(numbers[0]),
-        10 => surveys::channel(numbers[0]),
-        11 => surveys::read_log(given),
-        12 => surveys::summarise(surveys::counts_in(numbers)),
+        8 => messages::put_state(Channel::new()),
+        9 => messages::step(numbers, given, lent),
+        10 => groups::new_group(numbers[0]),
+        11 => surveys::khz(numbers[0]),
+        12 => surveys::channel(numbers[0]),
+        13 => surveys::read_log(given),
+        14 => surveys::summarise(surveys::counts_in(numbers)),
         _ => put::word(b"bad case"),
     }
 }
@@ -71,7 +72,17 @@ fn answer(line: &[u8], length: usize) -> bool {
     let numbers = case.numbers;
     let n = cases::within(case.given, &given);
     let m = cases::within(case.lent, &lent);
-    call(case.command, numbers, &given[..n], &mut lent[..m]);
+    let output = &mut lent[..m];
+    call(case.command, numbers, &given[..n], output);
+    end_line(case.command, output)
+}
+
+// Writes the bytes that were lent, where the answer ends with them, and the end of its line.
+fn end_line(command: usize, lent: &[u8]) -> bool {
+    if command < FILLING {
+        put::tab();
+        put::bytes(lent);
+    }
     io::write_all(STDOUT_FILENO, b"\n")
 }
 

@@ -13,7 +13,7 @@ pub(crate) fn step(numbers: [u64; MOST], information: &[u8], room: &[u8]) {
     let answer = stepped.answer;
     let next = stepped.channel;
     put_answer(answer);
-    put::word(b"\t");
+    put::tab();
     put_state(next);
 }
 
@@ -107,5 +107,5 @@ pub(crate) fn write_message(numbers: [u64; MOST], data: &[u8], output: &mut [u8]
     let sc = (numbers[7] % 256) as u8;
     let wrote = writer::write_message(fields, numbers[6] == 1, sc, data, output);
     let answer = wrote.answer;
-    put::filled(b"written", answer, wrote.blocks as u64, output);
+    put::counted(b"written", answer, wrote.blocks as u64);
 }

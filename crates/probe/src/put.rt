@@ -22,8 +22,12 @@ pub(crate) fn answer(success: &[u8], answer: Answer) {
     }
 }
 
-pub(crate) fn number(number: u64) {
+pub(crate) fn tab() {
     word(b"\t");
+}
+
+pub(crate) fn number(number: u64) {
+    tab();
     io::print_decimal(STDOUT_FILENO, number);
 }
 
@@ -35,12 +39,10 @@ pub(crate) fn numbers(list: &[u64]) {
     }
 }
 
-// An answer with a number, and the bytes that were lent, as the call left them.
-pub(crate) fn filled(success: &[u8], given: Answer, count: u64, lent: &[u8]) {
+// An answer with one number.
+pub(crate) fn counted(success: &[u8], given: Answer, count: u64) {
     answer(success, given);
     number(count);
-    word(b"\t");
-    bytes(lent);
 }
 
 // Bytes in hexadecimal, and `.` where there are none, without a tab.

@@ -12,16 +12,14 @@ pub(crate) fn khz(number: u64) {
     let told = band::to_kilohertz(channel);
     let answer = told.answer;
     let kilohertz = told.kilohertz;
-    put::answer(b"khz", answer);
-    put::number(kilohertz.0 as u64);
+    put::counted(b"khz", answer, kilohertz.0 as u64);
 }
 
 pub(crate) fn channel(frequency: u64) {
     let told = band::to_channel(Kilohertz((frequency % 4294967296) as u32));
     let answer = told.answer;
     let channel = told.channel;
-    put::answer(b"channel", answer);
-    put::number(channel.0 as u64);
+    put::counted(b"channel", answer, channel.0 as u64);
 }
 
 pub(crate) fn read_log(log: &[u8]) {
@@ -70,7 +68,7 @@ pub(crate) fn summarise(counts: Counts) {
 pub(crate) fn report(counts: Counts, output: &mut [u8]) {
     let written = summary::report(counts, output);
     let answer = written.answer;
-    put::filled(b"report", answer, written.length as u64, output);
+    put::counted(b"report", answer, written.length as u64);
 }
 
 // The summary in the arguments behind the counts.
@@ -86,5 +84,5 @@ fn summary_in(numbers: [u64; MOST]) -> Summary {
 pub(crate) fn export(numbers: [u64; MOST], output: &mut [u8]) {
     let written = summary::export(counts_in(numbers), summary_in(numbers), output);
     let answer = written.answer;
-    put::filled(b"row", answer, written.length as u64, output);
+    put::counted(b"row", answer, written.length as u64);
 }

@@ -10,17 +10,14 @@ cast-number c = search needs
 number-requires : tie.Need-number-requires
 number-requires c κs = search needs
 
+tab-requires : tie.Need-tab-requires
+tab-requires c κs = search needs
+
 slice-aggregate-word : tie.Need-slice-aggregate-word
 slice-aggregate-word c = search needs
 
 word-requires : tie.Need-word-requires
 word-requires c κs = search needs
-
-slice-aggregate-word-2 : tie.Need-slice-aggregate-word-2
-slice-aggregate-word-2 c = search needs
-
-word-requires-2 : tie.Need-word-requires-2
-word-requires-2 c κs = search needs
 
 returns : tie.Need-returns
 returns c = search needs
@@ -40,10 +37,9 @@ put-spec =
     (tie.spec
     cast-number
     number-requires
+    tab-requires
     slice-aggregate-word
     word-requires
-    slice-aggregate-word-2
-    word-requires-2
     returns
     float-to-bits-print-hex
     print-hex-requires
