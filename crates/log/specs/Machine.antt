@@ -9,20 +9,13 @@ use Rattle.log.specs.declared.Counts.{Counts}
 use Rattle.log.specs.declared.Reader.{Reader}
 use Rattle.log.specs.Decimal.{decimal}
 use Rattle.log.specs.Log.{lineFeed, slotLine, isOutcome}
-use Rattle.log.specs.Reader.{run, isPlain, isReader}
+use Rattle.log.specs.Reader.{run, isReader}
 
 -- from the byte at i on the reader s does what t does from the byte at j on
 pub record Goes (piece : List ℕ) (s : Reader) (i : ℕ) (t : Reader) (j : ℕ) : Type 0 where
   pub same : run s (drop i piece) ≡ run t (drop j piece)
   pub rule : isReader t ≡ true
   pub full : length (t .held) ≡ 63
-  pub on : i ≤ j
-  pub within : j ≤ length piece
-
--- no line feed stands from i up to j, where there is one or the piece ends
-pub record EndsAt (piece : List ℕ) (i j : ℕ) : Type 0 where
-  pub plain : isPlain (take (j - i) (drop i piece)) ≡ true
-  pub feed : j < length piece → getD piece j 0 ≡ lineFeed
   pub on : i ≤ j
   pub within : j ≤ length piece
 

@@ -4,7 +4,7 @@ ghost use mathlib.Core.Bool.{true, not};
 ghost use Prim.Native.Nat.{_≤_, _<_};
 ghost use lib.ListN.{length};
 ghost use Rattle.log.specs.Reader.{between, afterLine, openStep, isOpen, isBefore, isReader};
-ghost use Rattle.log.specs.Machine.{Goes, EndsAt};
+ghost use Rattle.log.specs.Machine.{Goes};
 ghost use Rattle.log.specs.Reader.{run as Reader·run};
 use crate::Counts;
 use crate::Judged;
@@ -115,21 +115,6 @@ fn whole_lines(counts: Counts, piece: &[u8], from: usize) -> Lines
         at = end + 1;
     }
     Lines { counts: so_far, at }
-}
-
-// Where the line that starts here ends, or the piece.
-pub(crate) fn line_end(piece: &[u8], from: usize) -> usize
-    requires { ⌜ from ≤ length (now piece) ⌝ }
-    ensures { λ r. ⌜ EndsAt (now (piece .entry)) from r ⌝ }
-{
-    let mut i = from;
-    while i < piece.len() {
-        if piece[i] == b'\n' {
-            return i;
-        }
-        i += 1;
-    }
-    i
 }
 
 fn open_step(reader: Reader, byte: u8) -> Reader

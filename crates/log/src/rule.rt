@@ -7,7 +7,6 @@ use crate::Counts;
 use crate::Phase;
 use crate::Reader;
 use crate::count;
-use crate::machine;
 
 pub(crate) fn is_reader(reader: Reader) -> bool
     ensures { λ r. ⌜ r ≡ isReader reader ⌝ }
@@ -41,7 +40,7 @@ fn is_held(held: &[u8], count: usize) -> bool
     ensures { λ r. ⌜ r ≡ isHeld (now (held .entry)) count ⌝ }
 {
     let zeros = [0u8; 63];
-    if machine::line_end(&held[..count], 0) == count {
+    if bytes::scan::find(held, 0, count, b'\n') == count {
         return text::same(&held[count..], &zeros[count..]);
     }
     false

@@ -4,8 +4,8 @@ use Prim.Native.Nat.{ℕ}
 use mathlib.Core.Path.{_≡_, sym, ap, _∙_}
 use mathlib.Core.List.{List}
 use lib.ListN.{length}
-use Rattle.text.specs.declared.bytes.Bytes.{Bytes}
-use Rattle.text.specs.Bytes.{readOf, leftOf}
+use Rattle.text.specs.declared.hexadecimal.Bytes.{Bytes}
+use Rattle.text.specs.Hexadecimal.{readOf, leftOf}
 
 -- WHAT IS READ, AND THE OUTPUT, ARE DETERMINED
 pub read-once : (digits output : List ℕ) (a b : Bytes) (left right : List ℕ) → a ≡ readOf digits (length output)

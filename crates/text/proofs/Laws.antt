@@ -9,8 +9,9 @@ use lib.ListN.{length, getD, set, take, drop, length-drop, drop-of-length-le, ta
 use lib.Seq.{drop-cons, drop-drop, drop-set-lt, take-all, take-suc-set}
 use lib.Dec.{ltb, eqb}
 use borrow.Author.Tests.{ltb-true}
-use Rattle.text.specs.Fields.{sameAs, beforeTab, fieldOf}
-use Rattle.text.specs.Bytes.{digitOf, hexadecimal, bytesOf}
+use Rattle.bytes.specs.Bytes.{indexOf, slice}
+use Rattle.text.specs.Fields.{sameAs, fieldOf}
+use Rattle.text.specs.Hexadecimal.{digitOf, hexadecimal, bytesOf}
 
 -- what is left at an index that is within: an element, and what is left behind it
 pub next : (s : List ℕ) (i : ℕ) → i < length s → drop i s ≡ getD s i 0 ∷ drop (i + 1) s
@@ -25,6 +26,7 @@ other-length (a ∷ xs) (b ∷ bs) h = rw (other-length xs bs (λ e. h (ap suc e
 
 -- an empty line has empty fields
 pub no-field : (index : ℕ) → fieldOf index [] ≡ []
+unfolding indexOf
 no-field zero = refl
 no-field (suc index) = no-field index
 
@@ -44,20 +46,25 @@ a-digit (b ∷ s) h (suc i) k = a-digit s (and-eq-true-iff (ltb (digitOf b) 16) 
 pub tail : (s : List ℕ) (i : ℕ) → take (length s - i) (drop i s) ≡ drop i s
 tail s i = take-all (length s - i) (drop i s) (rw length-drop (omega arith))
 
+-- how many bytes stand before the first tab, as the code looks for it
+pub tab-at : (s : List ℕ) (n : ℕ) → n ≡ 0 + indexOf 9 (slice 0 (length s) s) → n ≡ indexOf 9 s
+unfolding slice
+tab-at s n e = let found : n ≡ indexOf 9 (take (length s) s) = omega (arith, e) in found ∙ ap (indexOf 9) (take-all (length s) s (omega arith))
+
 -- A field, where n bytes stand before the first tab: the first of all,
-pub field-first : (k : ℕ) (s : List ℕ) (n : ℕ) → n ≡ beforeTab s → k ≤ 0 → take n s ≡ fieldOf k s
+pub field-first : (k : ℕ) (s : List ℕ) (n : ℕ) → n ≡ indexOf 9 s → k ≤ 0 → take n s ≡ fieldOf k s
 field-first zero s n e h = rw e
 field-first (suc k) s n e h = absurd (omega arith)
 
 -- one behind it,
-pub field-behind : (k : ℕ) (s : List ℕ) (n : ℕ) → n ≡ beforeTab s → 0 < k → fieldOf (k - 1) (drop (n + 1) s) ≡ fieldOf k s
+pub field-behind : (k : ℕ) (s : List ℕ) (n : ℕ) → n ≡ indexOf 9 s → 0 < k → fieldOf (k - 1) (drop (n + 1) s) ≡ fieldOf k s
 field-behind zero s n e h = absurd (omega arith)
 field-behind (suc k) s n e h =
     let g : suc k - 1 ≡ k = omega arith in
     rw (g, e, add-one)
 
 -- and one that is not there
-pub field-none : (k : ℕ) (s : List ℕ) (n : ℕ) → n ≡ beforeTab s → 0 < k → length s ≤ n → drop n s ≡ fieldOf k s
+pub field-none : (k : ℕ) (s : List ℕ) (n : ℕ) → n ≡ indexOf 9 s → 0 < k → length s ≤ n → drop n s ≡ fieldOf k s
 field-none k s n e h g =
     let more : length s ≤ n + 1 = omega arith in
     drop-of-length-le s g ∙ sym (no-field (k - 1)) ∙ ap (fieldOf (k - 1)) (sym (drop-of-length-le s more)) ∙ field-behind k s n e h

@@ -4,6 +4,7 @@ use mathlib.Core.Bool.{Bool, true, false, cond, _&&_}
 use mathlib.Core.List.{List, [], _∷_}
 use lib.ListN.{take, drop}
 use lib.Dec.{eqb}
+use Rattle.bytes.specs.Bytes.{indexOf}
 
 -- the same bytes in the same order
 abbrev pub sameAs : List ℕ → List ℕ → Bool
@@ -17,12 +18,7 @@ abbrev pub tabs : List ℕ → ℕ
 tabs [] = 0
 tabs (b ∷ line) = cond (eqb b 9) (suc (tabs line)) (tabs line)
 
--- the bytes before the first tab, or all
-abbrev pub beforeTab : List ℕ → ℕ
-beforeTab [] = 0
-beforeTab (b ∷ line) = cond (eqb b 9) 0 (suc (beforeTab line))
-
--- a field is what stands before the first tab, once as many fields as its index are taken off with the tab behind each
+-- a field is what stands before the first tab, or all where there is none, once as many fields as its index are taken off with the tab behind each
 abbrev pub fieldOf : ℕ → List ℕ → List ℕ
-fieldOf zero line = take (beforeTab line) line
-fieldOf (suc index) line = fieldOf index (drop (suc (beforeTab line)) line)
+fieldOf zero line = take (indexOf 9 line) line
+fieldOf (suc index) line = fieldOf index (drop (suc (indexOf 9 line)) line)

@@ -1,3 +1,3 @@
 pub mod Fields
 pub mod Numbers
-pub mod Bytes
+pub mod Hexadecimal

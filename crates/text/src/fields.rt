@@ -1,8 +1,6 @@
 // A line and its fields.
 ghost use mathlib.Core.Path.{_≡_};
-ghost use Prim.Native.Nat.{_≤_};
-ghost use lib.ListN.{length};
-ghost use Rattle.text.specs.Fields.{sameAs, tabs, beforeTab, fieldOf};
+ghost use Rattle.text.specs.Fields.{sameAs, tabs, fieldOf};
 
 const TAB: u8 = 9;
 
@@ -38,21 +36,6 @@ pub fn arguments(line: &[u8]) -> usize
     count
 }
 
-// How many bytes stand before the first tab, or are there where there is none.
-fn before_tab(rest: &[u8]) -> usize
-    ensures { λ r. ⌜ r ≡ beforeTab (now (rest .entry)) ⌝ }
-    ensures { λ r. ⌜ r ≤ length (now (rest .entry)) ⌝ }
-{
-    let mut i = 0;
-    while i < rest.len() {
-        if rest[i] == TAB {
-            return i;
-        }
-        i += 1;
-    }
-    i
-}
-
 // The field with an index, 0 for the command; where the line has no such field, nothing.
 pub fn field(line: &[u8], index: usize) -> &[u8]
     ensures { λ r. ⌜ now r ≡ fieldOf index (now (line .entry)) ⌝ }
@@ -60,13 +43,13 @@ pub fn field(line: &[u8], index: usize) -> &[u8]
     let mut rest = line;
     let mut left = index;
     while 0 < left {
-        let skipped = before_tab(rest);
+        let skipped = bytes::scan::find(rest, 0, rest.len(), TAB);
         if rest.len() <= skipped {
             return &rest[skipped..];
         }
         rest = &rest[skipped + 1..];
         left -= 1;
     }
-    let count = before_tab(rest);
+    let count = bytes::scan::find(rest, 0, rest.len(), TAB);
     &rest[..count]
 }

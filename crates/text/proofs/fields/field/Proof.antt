@@ -5,7 +5,7 @@ use native.Mathlib.Omega.{arith}
 use lib.Seq.{length-take-le}
 use lib.ListN.{length, length-drop}
 use borrow.Author.Needs.{needs}
-use Rattle.text.proofs.Laws.{field-first, tail, field-behind, field-none}
+use Rattle.text.proofs.Laws.{tail, tab-at, field-first, field-behind, field-none}
 use Rattle.text.specs.Fields.{fieldOf}
 use Rattle.text.proofs.fields.field.Statement.{statement}
 use Rattle.text.proofs.fields.field.Tie as tie
@@ -19,8 +19,8 @@ abbrev μ-loop : tie.MeasureT-loop
 loop-holds : tie.Need-loop-holds Inv-loop μ-loop
 loop-holds c = (omega arith, refl)
 
-before-tab-requires : tie.Need-before-tab-requires Inv-loop μ-loop
-before-tab-requires c κs = search needs
+find-requires : tie.Need-find-requires Inv-loop μ-loop
+find-requires c κs = search needs
 
 sub-result : tie.Need-sub-result Inv-loop μ-loop
 sub-result c = search needs
@@ -35,8 +35,8 @@ returns : tie.Need-returns Inv-loop μ-loop
 returns c =
     let p = c .before .before .before .before in
     let s = p .loop .rest .now in
-    let n = c .before .before .before-tab .result in
-    tail s n ∙ field-none (p .loop .left) s n (c .before .before .before-tab .ensures .0) (omega arith) (c .before .if1 .taken) ∙ p .loop .inv .1
+    let n = c .before .before .find .result in
+    tail s n ∙ field-none (p .loop .left) s n (tab-at s n (c .before .before .find .ensures .0)) (omega arith) (c .before .if1 .taken) ∙ p .loop .inv .1
 
 add-rest : tie.Need-add-rest Inv-loop μ-loop
 add-rest c = search needs
@@ -60,21 +60,21 @@ loop-again : tie.Need-loop-again Inv-loop μ-loop
 loop-again c =
     let p = c .before .before .before .before in
     let s = p .loop .rest .now in
-    let n = c .before .before .before-tab .result in (
+    let n = c .before .before .find .result in (
       rw (tail s (n + 1), length-drop) (omega arith),
-      ap (fieldOf (p .loop .left - 1)) (tail s (n + 1)) ∙ field-behind (p .loop .left) s n (c .before .before .before-tab .ensures .0) (omega arith) ∙ p .loop .inv .1,
+      ap (fieldOf (p .loop .left - 1)) (tail s (n + 1)) ∙ field-behind (p .loop .left) s n (tab-at s n (c .before .before .find .ensures .0)) (omega arith) ∙ p .loop .inv .1,
     )
 
-before-tab-requires-2 : tie.Need-before-tab-requires-2 Inv-loop μ-loop
-before-tab-requires-2 c κs = search needs
+find-requires-2 : tie.Need-find-requires-2 Inv-loop μ-loop
+find-requires-2 c κs = search needs
 
 slice-aggregate-result : tie.Need-slice-aggregate-result Inv-loop μ-loop
-slice-aggregate-result c = sym (length-take-le _ _ (c .before .before-tab2 .ensures .1))
+slice-aggregate-result c = sym (length-take-le _ _ (c .before .find2 .ensures .1))
 
 returns-2 : tie.Need-returns-2 Inv-loop μ-loop
 returns-2 c =
     let p = c .before .before .before in
-    field-first (p .loop .left) (p .loop .rest .now) (c .before .before-tab2 .result) (c .before .before-tab2 .ensures .0) (omega arith) ∙ p .loop .inv .1
+    field-first (p .loop .left) (p .loop .rest .now) (c .before .find2 .result) (tab-at _ _ (c .before .find2 .ensures .0)) (omega arith) ∙ p .loop .inv .1
 
 pub field-spec : {M : Type 1} → statement M
 field-spec =
@@ -83,7 +83,7 @@ field-spec =
     Inv-loop
     μ-loop
     loop-holds
-    before-tab-requires
+    find-requires
     sub-result
     part-result-start
     part-result-end
@@ -95,6 +95,6 @@ field-spec =
     sub-left
     loop-less
     loop-again
-    before-tab-requires-2
+    find-requires-2
     slice-aggregate-result
     returns-2)

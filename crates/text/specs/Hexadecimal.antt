@@ -5,8 +5,8 @@ use mathlib.Core.Bool.{Bool, true, cond, not, _&&_}
 use mathlib.Core.List.{List, [], _∷_, _++_}
 use lib.ListN.{length, getD, drop}
 use lib.Dec.{eqb, leb, ltb}
-use Rattle.text.specs.declared.bytes.Bytes.{Bytes}
-use Rattle.text.specs.declared.bytes.Bytes.the-variants.{Are, Unreadable}
+use Rattle.text.specs.declared.hexadecimal.Bytes.{Bytes}
+use Rattle.text.specs.declared.hexadecimal.Bytes.the-variants.{Are, Unreadable}
 
 -- the value of a digit, and 16 for any other byte
 abbrev pub digitOf : ℕ → ℕ

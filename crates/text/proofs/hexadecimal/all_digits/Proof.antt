@@ -1,14 +1,14 @@
--- `text::bytes::all_digits`: whether all are digits depends only on those not yet seen. Assumes nothing.
+-- `text::hexadecimal::all_digits`: whether all are digits depends only on those not yet seen. Assumes nothing.
 use Prim.Native.Nat.{_<_, _-_, _≤_}
 use mathlib.Core.Path.{_≡_, refl, sym, ap, _∙_}
 use native.Mathlib.Omega.{arith}
 use lib.ListN.{getD, length, drop, drop-of-length-le}
 use borrow.Author.Tests.{lt-ltb, le-ltb}
 use borrow.Author.Needs.{needs}
-use Rattle.text.specs.Bytes.{digitOf, hexadecimal}
+use Rattle.text.specs.Hexadecimal.{digitOf, hexadecimal}
 use Rattle.text.proofs.Laws.{next}
-use Rattle.text.proofs.bytes.all_digits.Statement.{statement}
-use Rattle.text.proofs.bytes.all_digits.Tie as tie
+use Rattle.text.proofs.hexadecimal.all_digits.Statement.{statement}
+use Rattle.text.proofs.hexadecimal.all_digits.Tie as tie
 
 abbrev Inv-loop : tie.InvT-loop
 Inv-loop digits i₀ i = (i ≤ length digits) × (hexadecimal digits ≡ hexadecimal (drop i digits))

@@ -1,8 +1,8 @@
--- `text::bytes::spell`: the two arms are the cases of `spelled`. Assumes nothing.
+-- `text::hexadecimal::spell`: the two arms are the cases of `spelled`. Assumes nothing.
 use borrow.Author.Tests.{lt-ltb, le-ltb}
 use borrow.Author.Needs.{needs}
-use Rattle.text.proofs.bytes.spell.Statement.{statement}
-use Rattle.text.proofs.bytes.spell.Tie as tie
+use Rattle.text.proofs.hexadecimal.spell.Statement.{statement}
+use Rattle.text.proofs.hexadecimal.spell.Tie as tie
 
 add-result : tie.Need-add-result
 add-result c = search needs

@@ -1,4 +1,4 @@
--- `text::bytes::read_bytes`: each answer is a case of `readOf`. Assumes nothing.
+-- `text::hexadecimal::read_bytes`: each answer is a case of `readOf`. Assumes nothing.
 use Prim.Native.Nat.{ℕ}
 use mathlib.Core.List.{List, _++_}
 use mathlib.Core.Path.{ap, _≡_, refl, sym, _∙_}
@@ -6,10 +6,10 @@ use mathlib.Core.Bool.{true, false}
 use native.Mathlib.Omega.{arith}
 use borrow.Author.Tests.{not-true, not-false, eq-eqb, ne-eqb, lt-ltb, le-ltb}
 use borrow.Author.Needs.{needs}
-use Rattle.text.specs.Bytes.{hexadecimal}
+use Rattle.text.specs.Hexadecimal.{hexadecimal}
 use Rattle.text.proofs.Laws.{no-byte}
-use Rattle.text.proofs.bytes.read_bytes.Statement.{statement}
-use Rattle.text.proofs.bytes.read_bytes.Tie as tie
+use Rattle.text.proofs.hexadecimal.read_bytes.Statement.{statement}
+use Rattle.text.proofs.hexadecimal.read_bytes.Tie as tie
 
 shared-slice-read-if2 : tie.Need-shared-slice-read-if2
 shared-slice-read-if2 c = search needs

@@ -1,4 +1,4 @@
--- `text::bytes::decode`: what is written, with the bytes of the digits not yet read, is the whole; behind it nothing is changed.
+-- `text::hexadecimal::decode`: what is written, with the bytes of the digits not yet read, is the whole; behind it nothing is changed.
 -- Assumes nothing.
 use Prim.Native.Nat.{_/_, _+_, _*_, _-_, _≤_}
 use mathlib.Core.List.{_++_}
@@ -7,9 +7,9 @@ use native.Mathlib.Omega.{arith}
 use lib.ListN.{length, getD, take, drop, length-set}
 use borrow.Author.Needs.{needs}
 use Rattle.text.proofs.Laws.{decoded, kept, decoded-all, a-digit}
-use Rattle.text.specs.Bytes.{digitOf, bytesOf}
-use Rattle.text.proofs.bytes.decode.Statement.{statement}
-use Rattle.text.proofs.bytes.decode.Tie as tie
+use Rattle.text.specs.Hexadecimal.{digitOf, bytesOf}
+use Rattle.text.proofs.hexadecimal.decode.Statement.{statement}
+use Rattle.text.proofs.hexadecimal.decode.Tie as tie
 
 abbrev Inv-loop : tie.InvT-loop
 Inv-loop digits output₀ count i₀ output i = (i ≤ count) × (length output ≡ length output₀) × (take i output ++ bytesOf (drop (2 * i) digits) ≡ bytesOf digits) × (drop i output ≡ drop i output₀)

@@ -1,9 +1,9 @@
--- `text::bytes::value`: each way through the ranges is a case of `digitOf`. Assumes nothing.
+-- `text::hexadecimal::value`: each way through the ranges is a case of `digitOf`. Assumes nothing.
 use native.Mathlib.Omega.{arith}
 use borrow.Author.Tests.{le-leb, lt-leb}
 use borrow.Author.Needs.{needs}
-use Rattle.text.proofs.bytes.value.Statement.{statement}
-use Rattle.text.proofs.bytes.value.Tie as tie
+use Rattle.text.proofs.hexadecimal.value.Statement.{statement}
+use Rattle.text.proofs.hexadecimal.value.Tie as tie
 
 add-result : tie.Need-add-result
 add-result c = search needs

@@ -4,7 +4,7 @@ ghost use mathlib.Core.Bool.{true};
 ghost use mathlib.Core.List.{_++_};
 ghost use Prim.Native.Nat.{_+_, _*_, _/_, _%_, _≤_, _<_};
 ghost use lib.ListN.{length, drop};
-ghost use Rattle.text.specs.Bytes.{digitOf, hexadecimal, bytesOf, spelled, readOf, leftOf, countOf};
+ghost use Rattle.text.specs.Hexadecimal.{digitOf, hexadecimal, bytesOf, spelled, readOf, leftOf, countOf};
 
 pub enum Bytes {
     Are(usize),
