@@ -1,32 +1,17 @@
 -- What antt computes over the tables: the difference property of the check positions, and that the generator's parity
 -- sums are even. Assumes nothing.
-use mathlib.Core.Path.{_≡_, refl, sym, subst}
+use mathlib.Core.Path.{_≡_, refl}
 use mathlib.Core.Bool.{Bool, true, false, _&&_, not}
 use mathlib.Core.List.{List, [], _∷_, _++_, map}
-use Prim.Native.Nat.{ℕ, zero, suc, _+_, _-_, _%_, _<_}
-use native.Mathlib.Nat.{not-suc-le-zero}
-use native.Mathlib.Omega.{arith}
-use native.Mathlib.Decide.{ℕ-discrete}
+use Prim.Native.Nat.{ℕ, _+_, _-_, _%_, _<_}
 use lib.Dec.{T, eqb, eqb→eq, ltb, ltb→lt}
 use lib.Ieee.Bits.{is-false}
 use lib.Ieee.Fits.{and-l, and-r}
 use lib.ListN.{length}
+use Rattle.gf2.proofs.Tested.{tested}
 use Rattle.code.specs.Code.{generator}
 use Rattle.code.specs.Vote.{residues, bitAt, parityOver, sumOver, checkPositions}
 use Rattle.code.proofs.Sums.{Below, occurs, seventeenOnce}
-
--- a test passes at each number below n
-abbrev allTo : ℕ → (ℕ → Bool) → Bool
-allTo zero f = true
-allTo (suc n) f = f n && allTo n f
-
-tested : (n : ℕ) (f : ℕ → Bool) → T (allTo n f) → (v : ℕ) → v < n → T (f v)
-tested zero f t v h = absurd (not-suc-le-zero h)
-tested (suc n) f t v h =
-    elim (ℕ-discrete v n) [
-      | yes e ↦ subst (λ (m : ℕ). T (f m)) (sym e) (and-l (f n) (allTo n f) t)
-      | no d ↦ tested n f (and-r (f n) (allTo n f) t) v (omega arith)
-    ]
 
 -- all differences of an entry of one list and one of another, modulo 273
 abbrev pub differences : List ℕ → List ℕ → List ℕ

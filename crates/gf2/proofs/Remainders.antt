@@ -149,6 +149,25 @@ length-check low info =
     length-remainder low (length info) (info ++ replicate (length low) false) (length low)
     (length-append info (replicate (length low) false) ∙ ap (λ (n : ℕ). length info + n) (length-replicate (length low) false))
 
+-- A CHECK IS THE SUM OF WHAT ITS BITS BRING IN: a zero in front nothing, and a one what it brings with zeros behind it
+pub check-zero : (low info : List Bool) → checkOf low (false ∷ info) ≡ checkOf low info
+check-zero low info = ap (remainder low (length info)) (add-scale-false low (info ++ replicate (length low) false))
+
+pub check-bit : (low : List Bool) (b : Bool) (info : List Bool)
+    → checkOf low (b ∷ info) ≡ add (scale b (checkOf low (true ∷ replicate (length info) false))) (checkOf low info)
+check-bit low false info = check-zero low info ∙ sym (add-scale-false (checkOf low (true ∷ replicate (length info) false)) (checkOf low info))
+check-bit low true info =
+    let n = length info in
+    let zeros = replicate (length low) false in
+    let long : length zeros ≡ length low = length-replicate (length low) false in
+    let behind : add (replicate n false ++ zeros) (info ++ zeros) ≡ info ++ zeros =
+    ap (λ (d : ℕ). add (replicate n false ++ zeros) (info ++ replicate d false)) (sym long) ∙ add-behind info zeros in
+    let one : remainder low (suc n) (true ∷ (replicate n false ++ zeros)) ≡ checkOf low (true ∷ replicate n false) =
+    ap (λ (k : ℕ). remainder low (suc k) (true ∷ (replicate n false ++ zeros))) (sym (length-replicate n false)) in
+    ap (λ (row : List Bool). remainder low (suc n) (true ∷ row)) (sym behind)
+    ∙ remainder-sum low (suc n) (true ∷ (replicate n false ++ zeros)) (false ∷ (info ++ zeros)) (ap suc (simp (length-append, length-replicate)))
+    ∙ (λ i. add ((one ∙ sym (scale-true (checkOf low (true ∷ replicate n false)))) i) (check-zero low info i))
+
 -- the remainder of information with an ending is what that ending lacks of the check
 pub remainder-ending : (low info ending : List Bool) → length ending ≡ length low
     → remainder low (length info) (info ++ ending) ≡ add ending (checkOf low info)

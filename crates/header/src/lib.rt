@@ -1,49 +1,38 @@
 // Headers of the long message channel (document 01): the six-bit check. How fields stand in a header, and that reading
 // and writing undo each other, is in specs/Fields.antt and proofs/Fields.antt, once for headers of any fields.
-ghost use mathlib.Core.Bool.{true, false};
 ghost use mathlib.Core.Path.{_≡_};
-ghost use Prim.Native.Nat.{_≤_, _<_};
-ghost use lib.ListN.{length};
-ghost use Rattle.header.specs.Check.{bits, number, check};
+ghost use Prim.Native.Nat.{_%_, _<_};
+ghost use lib.Count.{ones};
+ghost use Rattle.header.specs.Check.{check};
 
-// What stands below the leading power of x^6 + x^4 + x^3 + 1.
-const DIVISOR: [bool; 6] = [false, true, true, false, false, true];
+// For each check bit, the highest first, the bits of a header that it sums: bit n where x^(n + 6) leaves that check bit as it
+// is divided by x^6 + x^4 + x^3 + 1.
+const SUMMED: [u64; 6] = [
+    0xa098_f2b7_4131_e56e,
+    0xd04c_795b_a098_f2b7,
+    0x48be_ce1a_917d_9c35,
+    0x04c7_95ba_098f_2b74,
+    0x8263_cadd_04c7_95ba,
+    0x4131_e56e_8263_cadd,
+];
 
 // The six check bits over the fields of a header, both as numbers. Zeros in front do not change a
-// remainder, so all 64 bits of `fields` are divided, whatever the header's width.
+// remainder, so all 64 bits of `fields` are summed, whatever the header's width.
 pub fn check(fields: u64) -> u64
     ensures { λ r. ⌜ r ≡ check 64 fields ⌝ }
 {
-    let mut row = [false; 70];
-    spread(fields, &mut row[..64]);
-    gf2::divide(&mut row, &DIVISOR);
-    value(&row[64..])
-}
-
-// Fills a row with as many last bits of a number as the row has places.
-fn spread(x: u64, row: &mut [bool])
-    requires { ⌜ length (now row) ≤ 64 ⌝ }
-    ensures { λ r. ⌜ now (row .exit) ≡ bits (length (now (row .entry))) x ⌝ }
-{
-    let mut left = row.len();
+    let mut bits: u64 = 0;
     let mut i: usize = 0;
-    while 0 < left {
-        left -= 1;
-        row[i] = (x >> left) % 2 == 1;
+    while i < 6 {
+        bits = bits * 2 + parity(fields & SUMMED[i]);
         i += 1;
     }
+    bits
 }
 
-// The number that a row of six bits is.
-fn value(row: &[bool]) -> u64
-    requires { ⌜ length (now row) ≤ 6 ⌝ }
-    ensures { λ r. ⌜ r ≡ number (now (row .entry)) ⌝ }
+// Whether the number of ones is odd.
+fn parity(x: u64) -> u64
+    ensures { λ r. ⌜ (r ≡ ones x % 2) × (r < 2) ⌝ }
 {
-    let mut sum: u64 = 0;
-    let mut i: usize = 0;
-    while i < row.len() {
-        sum = sum * 2 + gf2::number(row[i]);
-        i += 1;
-    }
-    sum
+    (u64::count_ones(x) % 2) as u64
 }

@@ -1,60 +1,75 @@
--- `header::check`: 64 bits and six zeros, divided; the last six places are the check. Assumes nothing.
-use mathlib.Core.Path.{sym, _∙_}
-use Rattle.header.proofs.Bits.{row-length, row-check}
+-- `header::check`: what the bits so far are, with those from place i on behind them, is the whole number. Assumes nothing.
+use Rattle.header.proofs.Sums.{check-turn}
+use Rattle.header.proofs.Bits.{six-bits}
+use Rattle.header.specs.Check.{bits, onto, six, check}
+use Rattle.gf2.specs.Poly.{checkOf}
+use Rattle.gf2.proofs.Remainders.{length-check}
+use lib.ListN.{drop, drop-of-length-le}
 use borrow.Author.Needs.{needs}
+use native.Mathlib.Omega.{arith}
+use mathlib.Core.Path.{_≡_, refl, sym, ap, _∙_}
+use Prim.Native.Nat.{_-_, _≤_, _<_, _^_}
 use Rattle.header.proofs.check.Statement.{statement}
 use Rattle.header.proofs.check.Tie as tie
 
-array-borrow-prefix-row : tie.Need-array-borrow-prefix-row
-array-borrow-prefix-row c = search needs
+abbrev Inv-loop : tie.InvT-loop
+Inv-loop fields bits₀ i₀ so-far i = (i ≤ 6) × (so-far < 2 ^ i) × (onto so-far (drop i (checkOf six (bits 64 fields))) ≡ check 64 fields)
 
-slice-aggregate-spread : tie.Need-slice-aggregate-spread
-slice-aggregate-spread c = search needs
+abbrev μ-loop : tie.MeasureT-loop
+μ-loop fields bits₀ i₀ so-far i = 6 - i
 
-spread-requires : tie.Need-spread-requires
-spread-requires c κs = search needs
+loop-holds : tie.Need-loop-holds Inv-loop μ-loop
+unfolding check
+loop-holds c = (omega arith, omega arith, refl)
 
-slice-aggregate-divide : tie.Need-slice-aggregate-divide
-slice-aggregate-divide c =
-    let a = c .before .before in
-    sym (row-length (a .before .before .args .fields) (a .spread .last .1 .0) (a .spread .ensures))
+mul-bits : tie.Need-mul-bits Inv-loop μ-loop
+mul-bits c = omega (arith, six-bits (c .before .loop .i) (omega arith))
 
-slice-aggregate-divide-2 : tie.Need-slice-aggregate-divide-2
-slice-aggregate-divide-2 c = search needs
+mul-parity : tie.Need-mul-parity Inv-loop μ-loop
+mul-parity c = search needs
 
-divide-requires : tie.Need-divide-requires
-divide-requires c κs = search needs
+array-read-parity : tie.Need-array-read-parity Inv-loop μ-loop
+array-read-parity c = search needs
 
-sub-value : tie.Need-sub-value
-sub-value c = search needs
+parity-requires : tie.Need-parity-requires Inv-loop μ-loop
+parity-requires c κs = search needs
 
-part-value-start : tie.Need-part-value-start
-part-value-start c = search needs
+add-bits : tie.Need-add-bits Inv-loop μ-loop
+add-bits c =
+    let l = c .before .before .loop in
+    omega (arith, six-bits (l .i) (omega arith), c .parity .ensures .1)
 
-part-value-end : tie.Need-part-value-end
-part-value-end c = search needs
+add-i : tie.Need-add-i Inv-loop μ-loop
+add-i c = search needs
 
-value-requires : tie.Need-value-requires
-value-requires c κs = search needs
+loop-less : tie.Need-loop-less Inv-loop μ-loop
+loop-less c = search needs
 
-returns : tie.Need-returns
+loop-again : tie.Need-loop-again Inv-loop μ-loop
+loop-again c =
+    let l = c .before .before .loop in
+    let t = check-turn (c .before .before .before .args .fields) (omega arith) _ (l .bits) (l .i) (omega arith) (l .inv .1) (l .inv .2) (c .parity .result) (c .parity .ensures .0) in
+    (omega arith, t .0, t .1)
+
+returns : tie.Need-returns Inv-loop μ-loop
 returns c =
-    let d = c .before .before .before .before in
-    let a = d .before .before .before .before in
-    c .value .ensures ∙ row-check (a .before .before .args .fields) (a .spread .last .1 .0) (a .spread .ensures) (d .divide .last .0) (d .divide .ensures)
+    let l = c .before .loop in
+    let row = checkOf six (bits 64 (c .before .before .args .fields)) in
+    ap (onto (l .bits)) (sym (drop-of-length-le row {i = l .i} (omega (arith, length-check six (bits 64 (c .before .before .args .fields)))))) ∙ l .inv .2
 
 pub check-spec : {M : Type 1} → statement M
 check-spec =
     tie.close
     (tie.spec
-    array-borrow-prefix-row
-    slice-aggregate-spread
-    spread-requires
-    slice-aggregate-divide
-    slice-aggregate-divide-2
-    divide-requires
-    sub-value
-    part-value-start
-    part-value-end
-    value-requires
+    Inv-loop
+    μ-loop
+    loop-holds
+    mul-bits
+    mul-parity
+    array-read-parity
+    parity-requires
+    add-bits
+    add-i
+    loop-less
+    loop-again
     returns)
