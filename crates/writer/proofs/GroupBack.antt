@@ -30,9 +30,9 @@ use Rattle.writer.specs.Group.{groupFields, messagesOf, blocksOf, groupB
 use Rattle.writer.specs.Group as groups
 use Rattle.writer.specs.declared.Series.{Series}
 use Rattle.writer.proofs.ReadBack.{read-back, after-append}
-use Rattle.writer.proofs.Laws.{within-true}
+use Rattle.writer.proofs.Laws.{within-widths, within-true}
 use Rattle.writer.proofs.Writing.{message-count}
-use Rattle.writer.proofs.GroupWriting.{series-bounds, full-messages}
+use Rattle.writer.proofs.GroupWriting.{full-messages}
 
 -- ---- the channel: blocks to messages
 
@@ -176,24 +176,24 @@ pub group-back : (x : Series) (s : List ℕ) (c : Channel) (g : Group) (buffer :
     → keepsRule g ≡ true → g .number ≡ x .number → 3825 ≤ length buffer → GroupBack x s c g buffer
 unfolding groupBlocks
 group-back x s c g buffer fits l sc rule same room =
-    let b = series-bounds x (length s) fits in
+    let b = within-widths fits in
     let n = length s in
     let k = (n - 1) / 255 in
     let f = full-messages n (b .4) in
     let messages = messagesOf (suc k) true (x .number) (x .ri) (x .ci) s in
     let blocks : blocksOf (x .di) (c .expected) messages ≡ groupBlocks x s =
     λ i. blocksOf (x .di) (sc i) (messagesOf (sym (add-one k) i) true (x .number) (x .ri) (x .ci) s) in
-    let R = series-read (x .number) (x .ri) (x .di) (b .0) (b .1) (suc k) true (x .ci) s c (b .3) l in
+    let R = series-read (x .number) (x .ri) (x .di) (omega arith) (omega arith) (suc k) true (x .ci) s c (omega arith) l in
     let read : messagesRead c (groupBlocks x s) ≡ messages = ap (messagesRead c) (sym blocks) ∙ R .0 in
     let m = groupFields (x .number) (x .ri) (x .ci) true (eqb k 0) in
     let few : length (take 255 s) ≤ 255 = omega (arith, length-take 255 s) in
     let rules : (keepsRule g && within m (length (take 255 s))) ≡ true =
-    rw (rule, allowed (x .number) (x .ri) (b .0) (b .1) (x .ci) (length (take 255 s)) true (eqb k 0) (b .3) few) in
+    rw (rule, allowed (x .number) (x .ri) (omega arith) (omega arith) (x .ci) (length (take 255 s)) true (eqb k 0) (omega arith) few) in
     let ours : (eqb (x .number) (g .number) && true) ≡ true = rw (eq-eqb _ _ (sym same)) in
     let first : joinOf g m (take 255 s) buffer ≡ joinedOn (idle (x .number)) m (take 255 s) buffer =
     sym (joins g m (take 255 s) buffer room rules ours (idle (g .number)) refl refl (omega arith))
     ∙ ap (λ (i : ℕ). joinedOn (idle i) m (take 255 s) buffer) same in
-    let J = series-joins (x .number) (x .ri) (b .0) (b .1) k true (x .ci) s g (idle (x .number)) buffer (b .3) (omega arith) room refl (omega arith) (omega arith) first in
+    let J = series-joins (x .number) (x .ri) (omega arith) (omega arith) k true (x .ci) s g (idle (x .number)) buffer (omega arith) (omega arith) room refl (omega arith) (omega arith) first in
     let less : k + 1 - 1 ≡ k = omega arith in
     let none : 0 + n ≡ n = omega arith in
     record {

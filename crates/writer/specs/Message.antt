@@ -60,9 +60,12 @@ cut (suc k) di sc bytes = blockOf di (eqb k 0) sc (take 20 bytes) ∷ cut k di (
 unfoldable pub messageBlocks : Fields → Bool → ℕ → List ℕ → List (List ℕ)
 messageBlocks m di sc s = cut (blocksOf (headerFor m (length s))) di sc (messageBytes (headerFor m (length s)) s)
 
--- each field within its width, and at most 255 data bytes
-unfoldable pub within : Fields → ℕ → ℕ → Bool
-within m sc d = leb (m .ri) 3 && leb (m .ci) 3 && leb (m .number) 16383 && leb sc 15 && leb d 255
+-- each field within its width, and so many data bytes at most
+unfoldable pub inWidths : ℕ → ℕ → ℕ → ℕ → ℕ → ℕ → Bool
+inWidths ri ci number sc most d = leb ri 3 && leb ci 3 && leb number 16383 && leb sc 15 && leb d most
+
+abbrev pub within : Fields → ℕ → ℕ → Bool
+within m sc d = inWidths (m .ri) (m .ci) (m .number) sc 255 d
 
 -- an answer and the blocks written, none on a refusal
 pub record Written : Type 0 where

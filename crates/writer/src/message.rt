@@ -10,31 +10,31 @@ ghost use Rattle.gf2.specs.Poly.{bit};
 ghost use Rattle.header.specs.Fields.{total, packed, withCheck, header};
 ghost use Rattle.channel.specs.Layer3.{layer3};
 ghost use Rattle.channel.specs.Layer4.{sizeOf, layer4, blocksFor};
-ghost use Rattle.writer.specs.Message.{headerFor, valuesOf, headerBytes, blockOf, cut, messageBlocks, within, flat};
+ghost use Rattle.writer.specs.Message.{headerFor, valuesOf, headerBytes, blockOf, cut, messageBlocks, inWidths, within, flat};
 use crate::row;
 use channel::DATA_BYTES;
 use channel::Fields;
 use channel::INFORMATION_BYTES;
 use channel::LAST_NUMBER;
 use channel::MESSAGE_BYTES;
-use channel::MESSAGE_DATA;
 
-pub(crate) fn within_widths(fields: Fields, sc: u8, length: usize) -> bool
-    ensures { λ r. ⌜ r ≡ within fields sc length ⌝ }
+// Whether the fields that a writer takes are within their widths, and the data no longer than `most`.
+pub(crate) fn within_widths(ri: u8, ci: u8, number: u16, sc: u8, most: usize, length: usize) -> bool
+    ensures { λ r. ⌜ r ≡ inWidths ri ci number sc most length ⌝ }
 {
-    if 3 < fields.ri {
+    if 3 < ri {
         return false;
     }
-    if 3 < fields.ci {
+    if 3 < ci {
         return false;
     }
-    if LAST_NUMBER < fields.number {
+    if LAST_NUMBER < number {
         return false;
     }
     if 15 < sc {
         return false;
     }
-    length <= MESSAGE_DATA
+    length <= most
 }
 
 // The blocks of a message with this service number and so much data.
