@@ -18,6 +18,9 @@ use libc::STDOUT_FILENO;
 
 const LINE_FEED: u8 = 10;
 
+// The bytes of a line this long fit into 4,096, since each is two digits.
+const SHORT: usize = 8192;
+
 // How many bytes are held of the line that is being read, and whether answers can be written.
 struct Held {
     length: usize,
@@ -63,15 +66,25 @@ fn fitting(length: usize, line: &[u8]) -> usize
     cases::within(0, line)
 }
 
-// Answers a line, and tells whether the answer was written.
+// Answers a line, and tells whether the answer was written. A short line needs small rooms, whose zeros take no time.
 fn answer(line: &[u8], length: usize) -> bool {
     let count = fitting(length, line);
+    if count <= SHORT {
+        let mut given = io::buffer();
+        let mut lent = io::buffer();
+        return answer_in(&line[..count], &mut given, &mut lent);
+    }
     let mut given = cases::room();
     let mut lent = io::large_buffer();
-    let case = cases::read(&line[..count], &mut given, &mut lent);
+    answer_in(&line[..count], &mut given, &mut lent)
+}
+
+// Answers a line, in rooms for the bytes that it gives and lends.
+fn answer_in(line: &[u8], given: &mut [u8], lent: &mut [u8]) -> bool {
+    let case = cases::read(line, given, lent);
     let numbers = case.numbers;
-    let n = cases::within(case.given, &given);
-    let m = cases::within(case.lent, &lent);
+    let n = cases::within(case.given, given);
+    let m = cases::within(case.lent, lent);
     let output = &mut lent[..m];
     call(case.command, numbers, &given[..n], output);
     end_line(case.command, output)

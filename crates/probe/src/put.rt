@@ -51,8 +51,18 @@ pub(crate) fn bytes(bytes: &[u8]) {
         word(b".");
         return;
     }
+    if bytes.len() <= 2048 {
+        let mut room = io::buffer();
+        spell(bytes, &mut room);
+        return;
+    }
     let mut room = cases::room();
-    let count = digits(bytes, &mut room);
+    spell(bytes, &mut room);
+}
+
+// Writes the digits of bytes, which a room holds on their way.
+fn spell(bytes: &[u8], room: &mut [u8]) {
+    let count = digits(bytes, room);
     word(&room[..count]);
 }
 
