@@ -1,7 +1,7 @@
 -- The next slot's line, read forward. Assumes nothing.
 use Prim.Native.Nat.{ℕ, suc, _+_, _-_, _*_, _/_, _%_, _^_, _<_, _≤_}
 use mathlib.Core.Path.{_≡_, refl, ap, ap₂, sym, _∙_}
-use mathlib.Core.Bool.{Bool, true, false, not, _||_}
+use mathlib.Core.Bool.{true, false}
 use mathlib.Core.List.{List, [], _∷_, _++_, append-assoc}
 use native.Mathlib.Numerals.{add-one}
 use native.Mathlib.Nat.{pow-suc, pow-le-pow-right}
@@ -9,21 +9,13 @@ use native.Mathlib.Omega.{arith}
 use lib.ListN.{length, getD, take, drop, length-drop, take-append-drop}
 use lib.Seq.{take-suc, getD-drop, drop-drop, drop-cons}
 use lib.Dec.{eqb, ltb}
-use borrow.Author.Tests.{ne-eqb, ltb-true, ltb-false}
+use borrow.Author.Tests.{ltb-true, ltb-false}
 use Rattle.log.specs.declared.Counts.{Counts}
 use Rattle.log.specs.Decimal.{decimal}
-use Rattle.log.specs.Log.{slotLine, isOutcome, one}
+use Rattle.log.specs.Log.{slotLine, isOutcome}
 use Rattle.log.specs.Machine.{Reads, NextSlot}
 use Rattle.log.proofs.Lists.{by-cases}
 use Rattle.log.proofs.Decimal.{decimal-few, decimal-more}
-
--- tests that are added up
-pub any-of : (s t u v : Bool) → not (eqb (one s + (one t + one u + one v)) 0) ≡ (s || t || u || v)
-any-of true t u v = ap not (ne-eqb (1 + (one t + one u + one v)) 0 (λ e. omega arith))
-any-of false true u v = ap not (ne-eqb (0 + (1 + one u + one v)) 0 (λ e. omega arith))
-any-of false false true v = ap not (ne-eqb (0 + (0 + 1 + one v)) 0 (λ e. omega arith))
-any-of false false false true = refl
-any-of false false false false = refl
 
 pub reads-none : (text : List ℕ) (i : ℕ) → Reads text i i 0
 reads-none text i =

@@ -3,7 +3,7 @@ ghost use mathlib.Core.Path.{_≡_};
 ghost use mathlib.Core.Bool.{true, cond, _&&_};
 ghost use Prim.Native.Nat.{_-_, _≤_, _<_};
 ghost use lib.Dec.{leb};
-ghost use Rattle.log.specs.Log.{isCorrected, isOutcome, one, counted, tuned, isSound, isCounts};
+ghost use Rattle.log.specs.Log.{isCorrected, isOutcome, counted, tuned, isSound, isCounts};
 use crate::Counts;
 use crate::GREATEST_SLOT;
 
@@ -11,31 +11,25 @@ use crate::GREATEST_SLOT;
 pub fn is_counts(counts: Counts) -> bool
     ensures { λ r. ⌜ r ≡ isCounts counts ⌝ }
 {
-    if band::is_channel(counts.channel as u32) {
-        return is_sound(counts);
-    }
-    false
+    band::is_channel(counts.channel as u32) & is_sound(counts)
 }
 
 // Whether the counts agree with each other.
 pub(crate) fn is_sound(counts: Counts) -> bool
     ensures { λ r. ⌜ r ≡ isSound counts ⌝ }
 {
-    if GREATEST_SLOT < counts.slots {
-        return false;
-    }
-    let unread = counts.noword as u64 + counts.check as u64 + counts.missing as u64;
-    if counts.slots as u64 != counts.read as u64 + unread {
-        return false;
-    }
     if counts.read < counts.clean {
         return false;
     }
     let dirty = counts.read - counts.clean;
-    if counts.bits < dirty {
-        return false;
-    }
-    counts.bits <= 8 * dirty
+    let told = counts.read as u64
+        + counts.noword as u64
+        + counts.check as u64
+        + counts.missing as u64;
+    (counts.slots <= GREATEST_SLOT)
+        & (counts.slots as u64 == told)
+        & (dirty <= counts.bits)
+        & (counts.bits as u64 <= 8 * (dirty as u64))
 }
 
 // The counts of a log with its first line only.
@@ -63,21 +57,20 @@ pub(crate) fn count_one(counts: Counts, outcome: u8) -> Counts
     Counts {
         channel: counts.channel,
         slots: counts.slots + 1,
-        read: counts.read + one_if(is_corrected(outcome)),
-        clean: counts.clean + one_if(outcome == b'0'),
+        read: counts.read + is_corrected(outcome) as u32,
+        clean: counts.clean + (outcome == b'0') as u32,
         bits: counts.bits + bits_of(outcome),
-        noword: counts.noword + one_if(outcome == b'n'),
-        check: counts.check + one_if(outcome == b'c'),
-        missing: counts.missing + one_if(outcome == b'-'),
+        noword: counts.noword + (outcome == b'n') as u32,
+        check: counts.check + (outcome == b'c') as u32,
+        missing: counts.missing + (outcome == b'-') as u32,
     }
 }
 
-// `0` to `8`, `n`, `c` or `-`. The tests are added up and not chained, as no processor foresees which of them holds.
+// `0` to `8`, `n`, `c` or `-`. No test waits for another, as no processor foresees which of them holds.
 pub(crate) fn is_outcome(outcome: u8) -> bool
     ensures { λ r. ⌜ r ≡ isOutcome outcome ⌝ }
 {
-    let unread = one_if(outcome == b'n') + one_if(outcome == b'c') + one_if(outcome == b'-');
-    one_if(is_corrected(outcome)) + unread != 0
+    is_corrected(outcome) | (outcome == b'n') | (outcome == b'c') | (outcome == b'-')
 }
 
 fn is_corrected(outcome: u8) -> bool
@@ -90,10 +83,7 @@ fn is_corrected(outcome: u8) -> bool
 pub(crate) fn is_digit(byte: u8, most: u8) -> bool
     ensures { λ r. ⌜ r ≡ (leb 48 byte && leb byte most) ⌝ }
 {
-    if byte < b'0' {
-        return false;
-    }
-    byte <= most
+    (b'0' <= byte) & (byte <= most)
 }
 
 fn bits_of(outcome: u8) -> u32
@@ -104,11 +94,4 @@ fn bits_of(outcome: u8) -> u32
         return (outcome - b'0') as u32;
     }
     0
-}
-
-fn one_if(test: bool) -> u32
-    ensures { λ r. ⌜ r ≡ one test ⌝ }
-    ensures { λ r. ⌜ r ≤ 1 ⌝ }
-{
-    if test { 1 } else { 0 }
 }

@@ -168,13 +168,10 @@ fn after_end(reader: Reader) -> Fed
     let counts = reader.counts;
     match phase {
         Phase::Open => {
-            if counts.channel == 0 {
+            if (counts.channel == 0) | (reader.length != 0) {
                 return bad_line(machine::between_lines(Phase::Refused, counts));
             }
-            if reader.length == 0 {
-                return fine(machine::between_lines(Phase::Ended, counts));
-            }
-            bad_line(machine::between_lines(Phase::Refused, counts))
+            fine(machine::between_lines(Phase::Ended, counts))
         }
         Phase::Refused => bad_line(reader),
         Phase::Ended => fine(reader),

@@ -56,10 +56,7 @@ fn is_first(line: &[u8], channel: u8) -> bool
     if line.len() < 8 {
         return false;
     }
-    if text::same(&line[..8], b"channel\t") {
-        return spells(&line[8..], channel as u32);
-    }
-    false
+    text::same(&line[..8], b"channel\t") & spells(&line[8..], channel as u32)
 }
 
 // Whether this is the line of the slot after these: its number, a tab and an outcome.
@@ -73,13 +70,7 @@ fn is_next(slots: u32, line: &[u8]) -> bool
         return false;
     }
     let at = line.len() - 2;
-    if line[at] != b'\t' {
-        return false;
-    }
-    if count::is_outcome(line[at + 1]) {
-        return spells(&line[..at], slots + 1);
-    }
-    false
+    count::is_outcome(line[at + 1]) & (spells(&line[..at], slots + 1) & (line[at] == b'\t'))
 }
 
 // Whether the text is the number in decimal, compared from the last digit on.

@@ -16,9 +16,7 @@ pub(crate) fn is_reader(reader: Reader) -> bool
     let held = reader.held;
     let length = reader.length;
     if is_holding(phase, length) {
-        if is_held(&held, length) {
-            return is_before(counts);
-        }
+        return is_held(&held, length) & is_before(counts);
     }
     false
 }
@@ -50,11 +48,6 @@ fn is_held(held: &[u8], count: usize) -> bool
 fn is_before(counts: Counts) -> bool
     ensures { λ r. ⌜ r ≡ isBefore counts ⌝ }
 {
-    if count::is_sound(counts) {
-        if counts.channel == 0 {
-            return counts.slots == 0;
-        }
-        return band::is_channel(counts.channel as u32);
-    }
-    false
+    let first = (counts.channel == 0) & (counts.slots == 0);
+    count::is_sound(counts) & (first | band::is_channel(counts.channel as u32))
 }

@@ -39,10 +39,7 @@ pub(crate) fn slot_end(counts: Counts, piece: &[u8], from: usize) -> usize
         return none;
     }
     let slot = digits_at(piece, from);
-    if slot.number != counts.slots + 1 {
-        return none;
-    }
-    if is_tail(piece, slot.end) {
+    if (slot.number == counts.slots + 1) & is_tail(piece, slot.end) {
         return slot.end + 2;
     }
     none
@@ -72,11 +69,5 @@ fn is_tail(text: &[u8], at: usize) -> bool
     requires { ⌜ at + 2 < length (now text) ⌝ }
     ensures { λ r. ⌜ r ≡ (eqb (getD (now (text .entry)) at 0) tab && eqb (getD (now (text .entry)) (at + 2) 0) lineFeed && isOutcome (getD (now (text .entry)) (at + 1) 0)) ⌝ }
 {
-    if text[at] != b'\t' {
-        return false;
-    }
-    if text[at + 2] != b'\n' {
-        return false;
-    }
-    count::is_outcome(text[at + 1])
+    (text[at] == b'\t') & (text[at + 2] == b'\n') & count::is_outcome(text[at + 1])
 }

@@ -1,9 +1,15 @@
-use Rattle.log.specs.Log.{counted}
-use Rattle.log.proofs.Sound.{sound}
+-- `log::count::count_one`: no sum is too great, since a log has at most 999,999 slots. Assumes nothing.
+use Prim.Native.Nat.{_+_, _*_, _≤_}
+use Rattle.log.specs.Log.{isCorrected, counted}
+use Rattle.log.proofs.Sound.{sound, byte-one, byte-small}
+use lib.Dec.{eqb}
 use native.Mathlib.Omega.{arith}
 use borrow.Author.Needs.{needs}
 use Rattle.log.proofs.count.count_one.Statement.{statement}
 use Rattle.log.proofs.count.count_one.Tie as tie
+
+bounds : (c : tie.Start) → let x = c .args .counts in (x .read + x .noword + x .check + x .missing ≤ 999998) × (x .clean ≤ x .read) × (x .bits ≤ 8 * 999998)
+bounds c = let s = sound (c .args .counts) (c .pre .0) in omega (arith, s .each, s .clean, s .most)
 
 add-t3 : tie.Need-add-t3
 add-t3 c = search needs
@@ -11,45 +17,48 @@ add-t3 c = search needs
 is-corrected-requires : tie.Need-is-corrected-requires
 is-corrected-requires c κs = search needs
 
-one-if-requires : tie.Need-one-if-requires
-one-if-requires c κs = search needs
+cast-t5 : tie.Need-cast-t5
+cast-t5 c = search needs
 
 add-t6 : tie.Need-add-t6
-add-t6 c = omega (arith, sound (c .before .before .before .before .args .counts) (c .before .before .before .before .pre .0) .each, c .before .one-if .ensures .1)
+add-t6 c = omega (arith, bounds (c .before .before .before), byte-small (c .before .is-corrected .result))
 
-one-if-requires-2 : tie.Need-one-if-requires-2
-one-if-requires-2 c κs = search needs
+cast-t8 : tie.Need-cast-t8
+cast-t8 c = search needs
 
 add-t9 : tie.Need-add-t9
-add-t9 c = let s = sound (c .before .before .before .before .before .before .args .counts) (c .before .before .before .before .before .before .pre .0) in omega (arith, s .each, s .clean, c .before .one-if2 .ensures .1)
+add-t9 c = omega (arith, bounds (c .before .before .before .before), byte-small (eqb (c .before .before .before .before .args .outcome) 48))
 
 bits-of-requires : tie.Need-bits-of-requires
 bits-of-requires c κs = search needs
 
 add-t11 : tie.Need-add-t11
-add-t11 c = let s = sound (c .before .before .before .before .before .before .before .before .args .counts) (c .before .before .before .before .before .before .before .before .pre .0) in omega (arith, s .each, s .most, c .before .bits-of .ensures .1)
+add-t11 c = omega (arith, bounds (c .before .before .before .before .before .before), c .before .bits-of .ensures .1)
 
-one-if-requires-3 : tie.Need-one-if-requires-3
-one-if-requires-3 c κs = search needs
+cast-t13 : tie.Need-cast-t13
+cast-t13 c = search needs
 
 add-t14 : tie.Need-add-t14
-add-t14 c = omega (arith, sound (c .before .before .before .before .before .before .before .before .before .before .args .counts) (c .before .before .before .before .before .before .before .before .before .before .pre .0) .each, c .before .one-if3 .ensures .1)
+add-t14 c = omega (arith, bounds (c .before .before .before .before .before .before .before), byte-small (eqb (c .before .before .before .before .before .before .before .args .outcome) 110))
 
-one-if-requires-4 : tie.Need-one-if-requires-4
-one-if-requires-4 c κs = search needs
+cast-t16 : tie.Need-cast-t16
+cast-t16 c = search needs
 
 add-t17 : tie.Need-add-t17
-add-t17 c = omega (arith, sound (c .before .before .before .before .before .before .before .before .before .before .before .before .args .counts) (c .before .before .before .before .before .before .before .before .before .before .before .before .pre .0) .each, c .before .one-if4 .ensures .1)
+add-t17 c = omega (arith, bounds (c .before .before .before .before .before .before .before .before), byte-small (eqb (c .before .before .before .before .before .before .before .before .args .outcome) 99))
 
-one-if-requires-5 : tie.Need-one-if-requires-5
-one-if-requires-5 c κs = search needs
+cast-t19 : tie.Need-cast-t19
+cast-t19 c = search needs
 
 add-t20 : tie.Need-add-t20
-add-t20 c = omega (arith, sound (c .before .before .before .before .before .before .before .before .before .before .before .before .before .before .args .counts) (c .before .before .before .before .before .before .before .before .before .before .before .before .before .before .pre .0) .each, c .before .one-if5 .ensures .1)
+add-t20 c = omega (arith, bounds (c .before .before .before .before .before .before .before .before .before), byte-small (eqb (c .before .before .before .before .before .before .before .before .before .args .outcome) 45))
 
 returns : tie.Need-returns
 unfolding counted
-returns c = rw (c .before .before .before .before .before .before .before .before .before .before .before .one-if .ensures .0, c .before .before .before .before .before .before .before .before .before .before .before .before .is-corrected .ensures, c .before .before .before .before .before .before .before .before .before .one-if2 .ensures .0, c .before .before .before .before .before .before .before .bits-of .ensures .0, c .before .before .before .before .before .one-if3 .ensures .0, c .before .before .before .one-if4 .ensures .0, c .before .one-if5 .ensures .0)
+returns c =
+    let k = c .before .before .before .before .before .before .before in
+    let o = k .before .before .args .outcome in
+    rw (k .is-corrected .ensures, c .before .before .before .before .bits-of .ensures .0, byte-one (isCorrected o), byte-one (eqb o 48), byte-one (eqb o 110), byte-one (eqb o 99), byte-one (eqb o 45))
 
 pub count-one-spec : {M : Type 1} → statement M
 count-one-spec =
@@ -57,16 +66,16 @@ count-one-spec =
     (tie.spec
     add-t3
     is-corrected-requires
-    one-if-requires
+    cast-t5
     add-t6
-    one-if-requires-2
+    cast-t8
     add-t9
     bits-of-requires
     add-t11
-    one-if-requires-3
+    cast-t13
     add-t14
-    one-if-requires-4
+    cast-t16
     add-t17
-    one-if-requires-5
+    cast-t19
     add-t20
     returns)

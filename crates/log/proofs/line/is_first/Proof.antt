@@ -1,16 +1,18 @@
+-- `log::line::is_first`: `channel` and the tab, then the number. Assumes nothing.
 use Rattle.text.specs.Fields.{sameAs}
+use Rattle.log.specs.Decimal.{decimal}
 use Rattle.log.proofs.Lines.{first-parts, first-short}
 use Rattle.log.proofs.Lists.{tail-part}
-use Rattle.log.specs.Decimal.{decimal}
 use Prim.Native.Nat.{ℕ}
 use mathlib.Core.List.{List}
-use mathlib.Core.Path.{sym, _∙_, ap}
+use mathlib.Core.Path.{sym, ap, _∙_}
 use native.Mathlib.Omega.{arith}
 use lib.Seq.{length-take-le}
 use denote.Ref.{now}
 use borrow.Author.Needs.{needs}
 use Rattle.log.proofs.line.is_first.Statement.{statement}
 use Rattle.log.proofs.line.is_first.Tie as tie
+use Rattle.text.proofs.same.Reads as same-reads
 
 returns : tie.Need-returns
 returns c = sym (first-short (now (c .before .before .args .line)) (c .before .before .args .channel) (c .if1 .taken))
@@ -38,12 +40,10 @@ spells-requires c κs = search needs
 
 returns-2 : tie.Need-returns-2
 returns-2 c =
-    let l = now (c .before .before .before .before .before .before .before .before .args .line) in
-    c .spells .ensures ∙ ap (λ (k : List ℕ). sameAs k (decimal (c .before .before .before .before .before .before .before .before .args .channel))) (tail-part 8 l (omega arith))
-    ∙ sym (first-parts l (c .before .before .before .before .before .before .before .before .args .channel) (omega arith) ∙ rw (sym (c .before .before .before .same .ensures) ∙ c .before .before .if2 .taken))
-
-returns-3 : tie.Need-returns-3
-returns-3 c = let l = now (c .before .before .before .before .before .before .args .line) in sym (first-parts l (c .before .before .before .before .before .before .args .channel) (omega arith) ∙ rw (sym (c .before .same .ensures) ∙ c .if2 .left))
+    let a = c .before .before .before .before .before .before .before .args in
+    let l = now (a .line) in
+    rw (c .before .before .same .ensures, c .spells .ensures ∙ ap (λ (k : List ℕ). sameAs k (decimal (a .channel))) (tail-part 8 l (omega arith)))
+    (sym (first-parts l (a .channel) (omega arith)))
 
 pub is-first-spec : {M : Type 1} → statement M
 is-first-spec =
@@ -57,5 +57,4 @@ is-first-spec =
     part-spells-start
     part-spells-end
     spells-requires
-    returns-2
-    returns-3)
+    returns-2)

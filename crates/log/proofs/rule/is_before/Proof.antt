@@ -1,16 +1,18 @@
+-- `log::rule::is_before`: no channel is 0, so at most one of the two ways is open. Assumes nothing.
+use Rattle.band.specs.Band.{isChannel}
 use Rattle.log.specs.Reader.{isBefore}
-use borrow.Author.Tests.{eq-eqb, ne-eqb}
-use mathlib.Core.Path.{sym, _∙_}
+use Prim.Native.Nat.{ℕ}
+use mathlib.Core.Bool.{Bool, true, false, cond, _&&_, _||_, or-false}
+use mathlib.Core.Path.{_≡_, refl, ap, _∙_}
+use borrow.Author.Tests.{eqb-true}
+use lib.Dec.{eqb}
 use borrow.Author.Needs.{needs}
 use Rattle.log.proofs.rule.is_before.Statement.{statement}
 use Rattle.log.proofs.rule.is_before.Tie as tie
+use Rattle.band.proofs.is_channel.Reads as is-channel-reads
 
 is-sound-requires : tie.Need-is-sound-requires
 is-sound-requires c κs = search needs
-
-returns : tie.Need-returns
-unfolding isBefore
-returns c = rw (sym (c .before .before .before .before .is-sound .ensures) ∙ c .before .before .before .if1 .taken, eq-eqb (c .before .before .before .before .before .args .counts .channel) 0 (c .before .if2 .taken))
 
 cast-is-channel : tie.Need-cast-is-channel
 cast-is-channel c = search needs
@@ -18,15 +20,15 @@ cast-is-channel c = search needs
 is-channel-requires : tie.Need-is-channel-requires
 is-channel-requires c κs = search needs
 
-returns-2 : tie.Need-returns-2
-unfolding isBefore
-returns-2 c = c .is-channel .ensures ∙ sym (rw (sym (c .before .before .before .before .before .is-sound .ensures) ∙ c .before .before .before .before .if1 .taken, ne-eqb (c .before .before .before .before .before .before .args .counts .channel) 0 (c .before .before .if2 .left)))
+either : (channel : ℕ) (none b : Bool) → eqb channel 0 ≡ b → (b && none || isChannel channel) ≡ cond b none (isChannel channel)
+either channel none true e = ap (λ (n : ℕ). none || isChannel n) (eqb-true channel 0 e) ∙ or-false none
+either channel none false e = refl
 
-returns-3 : tie.Need-returns-3
+returns : tie.Need-returns
 unfolding isBefore
-returns-3 c = rw (sym (c .before .is-sound .ensures) ∙ c .if1 .left)
+returns c =
+    let x = c .before .before .before .before .before .args .counts in
+    rw (c .before .before .is-sound .ensures, c .is-channel .ensures, either (x .channel) (eqb (x .slots) 0) (eqb (x .channel) 0) refl)
 
 pub is-before-spec : {M : Type 1} → statement M
-is-before-spec =
-    tie.close
-    (tie.spec is-sound-requires returns cast-is-channel is-channel-requires returns-2 returns-3)
+is-before-spec = tie.close (tie.spec is-sound-requires cast-is-channel is-channel-requires returns)

@@ -1,5 +1,6 @@
-use Rattle.log.proofs.Runs.{small}
+-- `log::rule::is_reader`: what is held is looked at where its length is good. Assumes nothing.
 use Rattle.log.specs.Reader.{isReader}
+use Rattle.log.proofs.Runs.{small}
 use lib.ListN.{length}
 use mathlib.Core.Path.{_≡_, sym, _∙_}
 use borrow.Author.Needs.{needs}
@@ -14,23 +15,20 @@ slice-aggregate-is-held c = search needs
 
 is-held-requires : tie.Need-is-held-requires
 is-held-requires c κs =
-    let f : length (c .before .before .before .before .before .args .reader .held) ≡ 63 = search needs in
-    (f, small (c .before .before .before .before .before .args .reader .phase) (c .before .before .before .before .before .args .reader .length) (sym (c .before .before .is-holding .ensures) ∙ c .before .if1 .taken))
+    let r = c .before .before .before .before .before .args .reader in
+    let f : length (r .held) ≡ 63 = search needs in
+    (f, small (r .phase) (r .length) (sym (c .before .before .is-holding .ensures) ∙ c .before .if1 .taken))
 
 is-before-requires : tie.Need-is-before-requires
 is-before-requires c κs = search needs
 
 returns : tie.Need-returns
 unfolding isReader
-returns c = c .is-before .ensures ∙ sym (rw (sym (c .before .before .before .before .before .is-holding .ensures) ∙ c .before .before .before .before .if1 .taken, sym (c .before .before .is-held .ensures) ∙ c .before .if2 .taken))
+returns c = rw (c .before .is-held .ensures, c .is-before .ensures, sym (c .before .before .before .before .is-holding .ensures) ∙ c .before .before .before .if1 .taken)
 
 returns-2 : tie.Need-returns-2
 unfolding isReader
-returns-2 c = rw (sym (c .before .before .before .before .is-holding .ensures) ∙ c .before .before .before .if1 .taken, sym (c .before .is-held .ensures) ∙ c .if2 .left)
-
-returns-3 : tie.Need-returns-3
-unfolding isReader
-returns-3 c = rw (sym (c .before .is-holding .ensures) ∙ c .if1 .left)
+returns-2 c = rw (sym (c .before .is-holding .ensures) ∙ c .if1 .left)
 
 pub is-reader-spec : {M : Type 1} → statement M
 is-reader-spec =
@@ -41,5 +39,4 @@ is-reader-spec =
     is-held-requires
     is-before-requires
     returns
-    returns-2
-    returns-3)
+    returns-2)
