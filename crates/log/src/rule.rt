@@ -38,10 +38,8 @@ fn is_held(held: &[u8], count: usize) -> bool
     ensures { λ r. ⌜ r ≡ isHeld (now (held .entry)) count ⌝ }
 {
     let zeros = [0u8; 63];
-    if bytes::scan::find(held, 0, count, b'\n') == count {
-        return text::same(&held[count..], &zeros[count..]);
-    }
-    false
+    (bytes::scan::find(held, 0, count, b'\n') == count)
+        & text::same(&held[count..], &zeros[count..])
 }
 
 // Whether these are the counts before some line.

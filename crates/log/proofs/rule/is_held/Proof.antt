@@ -8,7 +8,6 @@ use Rattle.log.specs.Reader.{isHeld}
 use mathlib.Core.List.{List}
 use mathlib.Core.Path.{sym, ap, _∙_}
 use native.Mathlib.Omega.{arith}
-use borrow.Author.Tests.{eq-eqb, ne-eqb}
 use lib.ListN.{length, take, drop}
 use denote.Ref.{now}
 use borrow.Author.Needs.{needs}
@@ -42,23 +41,14 @@ same-requires c κs = search needs
 returns : tie.Need-returns
 unfolding isHeld
 returns c =
-    let f = c .before .before .before .before .before in
+    let f = c .before .before .before .before in
     let a = f .before .before in
     let l = now (a .args .held) in
     let n = a .args .count in
     let few : n ≤ length l = omega (arith, a .pre .0, a .pre .1) in
-    c .same .ensures ∙ ap (λ (k : List ℕ). sameAs k (take (63 - n) (drop n zeros))) (tail-part n l few)
-    ∙ ap (λ (k : List ℕ). sameAs (drop n l) k) (tail-part n zeros (a .pre .1))
-    ∙ sym (rw (held-plain l n (f .find .result) few (f .find .ensures .0), eq-eqb (f .find .result) n (c .before .before .before .before .if1 .taken)))
-
-returns-2 : tie.Need-returns-2
-unfolding isHeld
-returns-2 c =
-    let f = c .before in
-    let a = f .before .before in
-    let l = now (a .args .held) in
-    let n = a .args .count in
-    sym (rw (held-plain l n (f .find .result) (omega (arith, a .pre .0, a .pre .1)) (f .find .ensures .0), ne-eqb (f .find .result) n (c .if1 .left)))
+    let same = c .same .ensures ∙ ap (λ (k : List ℕ). sameAs k (take (63 - n) (drop n zeros))) (tail-part n l few)
+    ∙ ap (λ (k : List ℕ). sameAs (drop n l) k) (tail-part n zeros (a .pre .1)) in
+    rw same (sym (rw (held-plain l n (f .find .result) few (f .find .ensures .0))))
 
 pub is-held-spec : {M : Type 1} → statement M
 is-held-spec =
@@ -72,5 +62,4 @@ is-held-spec =
     part-same-start-2
     part-same-end-2
     same-requires
-    returns
-    returns-2)
+    returns)
