@@ -1,13 +1,11 @@
 -- What sound counts are. Assumes nothing.
 use Prim.Native.Nat.{_+_, _-_, _*_, _≤_}
-use mathlib.Core.Path.{_≡_, refl}
-use mathlib.Core.Bool.{Bool, true, false, and-eq-true-iff}
-use native.Mathlib.Omega.{arith}
-use mir.Val.{boolByte}
+use mathlib.Core.Path.{_≡_}
+use mathlib.Core.Bool.{true, and-eq-true-iff}
 use lib.Dec.{leb, eqb}
 use borrow.Author.Tests.{leb-true, le-leb, eqb-true, eq-eqb}
 use Rattle.log.specs.declared.Counts.{Counts}
-use Rattle.log.specs.Log.{one, isSound}
+use Rattle.log.specs.Log.{isSound}
 
 -- what `isSound` tests
 pub record Sound (c : Counts) : Type 0 where
@@ -42,12 +40,3 @@ sound-is c h =
       le-leb (c .read - c .clean) (c .bits) (h .least),
       le-leb (c .bits) (8 * (c .read - c .clean)) (h .most),
     )
-
--- a test as a number
-pub byte-one : (b : Bool) → boolByte b ≡ one b
-byte-one true = refl
-byte-one false = refl
-
-pub byte-small : (b : Bool) → boolByte b ≤ 1
-byte-small true = omega arith
-byte-small false = omega arith
