@@ -77,20 +77,11 @@ pub fn to_channel(kilohertz: Kilohertz) -> ChannelAnswer
 pub fn is_channel(number: u32) -> bool
     ensures { λ r. ⌜ r ≡ isChannel number ⌝ }
 {
-    if number < 1 {
-        return false;
-    }
-    number <= 204
+    (1 <= number) & (number <= 204)
 }
 
 fn is_frequency(frequency: u32) -> bool
     ensures { λ r. ⌜ r ≡ isFrequency frequency ⌝ }
 {
-    if frequency < 87600 {
-        return false;
-    }
-    if 107900 < frequency {
-        return false;
-    }
-    frequency % 100 == 0
+    (87600 <= frequency) & (frequency <= 107900) & (frequency % 100 == 0)
 }
