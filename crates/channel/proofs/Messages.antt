@@ -1,7 +1,7 @@
 -- What the gathered bytes are, test by test, on the header as it stands in them. Assumes nothing.
 use Prim.Native.Nat.{ℕ, _+_, _*_, _≤_, _<_}
-use mathlib.Core.Path.{_≡_, sym, ap, _∙_}
-use mathlib.Core.Bool.{Bool, true, false, not, _&&_}
+use mathlib.Core.Path.{_≡_, refl, sym, ap, _∙_}
+use mathlib.Core.Bool.{Bool, true, false, not, _&&_, _||_}
 use mathlib.Core.List.{List}
 use borrow.Author.Tests.{le-leb, lt-leb}
 use lib.Dec.{eqb, leb}
@@ -13,8 +13,13 @@ use Rattle.channel.specs.Layer4.{rightForm, blocksFor, zeros, openedAt, 
 use Rattle.channel.specs.declared.layer4.Opened.{Opened}
 use Rattle.channel.proofs.Headers.{openedAt-room}
 
+-- RFA is zero and the form is right, as the code has it
 abbrev pub formed : Opened → Bool
-formed o = eqb (o .rfa) 0 && rightForm (o .header .ext) (o .header .number)
+formed o = eqb (o .rfa) 0 && (not (o .header .ext) || leb 512 (o .header .number))
+
+form-of : (ext : Bool) (number : ℕ) → rightForm ext number ≡ (not ext || leb 512 number)
+form-of true number = refl
+form-of false number = refl
 
 abbrev pub endOf : Opened → ℕ
 endOf o = o .header .size + o .header .length
@@ -34,7 +39,7 @@ module _ (bytes : List ℕ) (o : Opened) (is : o ≡ openedAt bytes) where
       ap (λ (p : Opened). tested p bytes) (sym is)
       ∙ ap (λ (t : Outcome). unless (not (o .caf)) (refused 6) (unless (o .checked) (refused 4) t))
       (unless-and (eqb (o .rfa) 0) (rightForm (o .header .ext) (o .header .number)) (refused 6) _
-      ∙ ap (λ (t : Outcome). unless (formed o) (refused 6) (unless (leb (endOf o) 260) (refused 14) t)) last)
+      ∙ (λ i. unless (eqb (o .rfa) 0 && form-of (o .header .ext) (o .header .number) i) (refused 6) (unless (leb (endOf o) 260) (refused 14) (last i))))
 
   pub caf-set : o .caf ≡ true → refused 6 ≡ messageOf bytes
   caf-set e = sym (in-five ∙ rw e)

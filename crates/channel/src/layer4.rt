@@ -5,7 +5,7 @@ ghost use Prim.Native.Nat.{_*_, _≤_, _<_, _^_};
 ghost use lib.Dec.{eqb};
 ghost use lib.ListN.{length, drop};
 ghost use Rattle.channel.specs.Answers.{outcome};
-ghost use Rattle.channel.specs.Layer4.{only, sizeOf, opened, openedAt, rightForm, blocksFor, messageOf, zeros};
+ghost use Rattle.channel.specs.Layer4.{only, sizeOf, opened, openedAt, blocksFor, messageOf, zeros};
 use crate::DATA_BYTES;
 use crate::Header;
 use crate::MESSAGE_BYTES;
@@ -34,7 +34,9 @@ pub(crate) fn read(bytes: &[u8]) -> Step
         return Step::Refused(Refusal::HeaderCheck);
     }
     let header = opened.header;
-    if !right_form(opened.rfa, header.ext, header.number) {
+    // RFA is zero. A number below 512 is written without EXT, and a greater one needs it: without EXT there are nine bits.
+    let formed = (opened.rfa == 0) & (!header.ext | (512 <= header.number));
+    if !formed {
         return Step::Refused(Refusal::HeaderForm);
     }
     let end = header.size + header.length;
@@ -105,30 +107,16 @@ fn with_ext(ext: bool, field: u64) -> u64
     if ext { field } else { 0 }
 }
 
-// RFA is zero. A number below 512 is written without EXT, and a greater one needs it: without EXT there are nine bits.
-fn right_form(rfa: u8, ext: bool, number: u16) -> bool
-    ensures { λ r. ⌜ r ≡ (eqb rfa 0 && rightForm ext number) ⌝ }
-{
-    if rfa != 0 {
-        return false;
-    }
-    if ext { 512 <= number } else { true }
-}
-
 // Whether the bytes are the least number of blocks that holds a message up to `end`, and zero behind it.
 fn padded(bytes: &[u8], end: usize) -> bool
     requires { ⌜ end ≤ 260 ⌝ }
     ensures { λ r. ⌜ r ≡ (eqb (blocksFor end * 20) (length (now (bytes .entry))) && zeros (drop end (now (bytes .entry)))) ⌝ }
 {
-    if (end + 19) / DATA_BYTES * DATA_BYTES != bytes.len() {
-        return false;
-    }
+    let mut right = (end + 19) / DATA_BYTES * DATA_BYTES == bytes.len();
     let mut i = end;
     while i < bytes.len() {
-        if bytes[i] != 0 {
-            return false;
-        }
+        right = right & (bytes[i] == 0);
         i += 1;
     }
-    true
+    right
 }

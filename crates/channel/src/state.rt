@@ -32,22 +32,12 @@ pub(crate) fn keeps_rule(channel: Channel) -> bool
     let phase = channel.phase;
     let n = channel.gathered;
     let sc = channel.expected;
-    if 15 < sc {
-        return false;
-    }
-    match phase {
-        Phase::Waiting => if n == 0 { sc == 0 } else { false },
+    let held = match phase {
+        Phase::Waiting => (n == 0) & (sc == 0),
         Phase::Ready => n == 0,
-        Phase::Gathering => {
-            if n < DATA_BYTES {
-                return false;
-            }
-            if MESSAGE_BYTES < n {
-                return false;
-            }
-            n % DATA_BYTES == 0
-        }
-    }
+        Phase::Gathering => (DATA_BYTES <= n) & (n <= MESSAGE_BYTES) & (n % DATA_BYTES == 0),
+    };
+    (sc <= 15) & held
 }
 
 // A block with a right header, by its LF, its SC and its twenty bytes. One out of step drops what was gathered, and so

@@ -9,12 +9,12 @@ use Rattle.channel.proofs.layer4.read.Statement.{statement}
 use Rattle.channel.proofs.layer4.read.Tie as tie
 
 -- the header's own tests
-sound : (c : tie.Else3) → let o = c .before .before .before .before .before .before .header-at .result in
+sound : (c : tie.Else3) → let o = c .before .before .before .before .before .before .before .before .header-at .result in
     (o .caf ≡ false) × (o .checked ≡ true) × (formed o ≡ true)
 sound c =
-    let k = c .before .before .before in
+    let k = c .before .before .before .before .before in
     let o = k .before .before .before .header-at .result in
-    (k .before .before .if1 .left, not-false (o .checked) (k .if2 .left), sym (c .before .right-form .ensures) ∙ not-false (c .before .right-form .result) (c .if3 .left))
+    (k .before .before .if1 .left, not-false (o .checked) (k .if2 .left), not-false (formed o) (c .if3 .left))
 
 header-at-requires : tie.Need-header-at-requires
 header-at-requires c κs = search needs
@@ -30,24 +30,21 @@ returns-2 c =
     let o = k .header-at .result in
     wrong-check (k .before .before .args .bytes .now) o (k .header-at .ensures) (c .before .before .if1 .left) (not-true (o .checked) (c .if2 .taken))
 
-right-form-requires : tie.Need-right-form-requires
-right-form-requires c κs = search needs
-
 returns-3 : tie.Need-returns-3
 returns-3 c =
-    let k = c .before .before .before .before .before .before in
+    let q = c .before .before .before .before .before in
+    let k = q .before .before .before in
     let o = k .header-at .result in
-    wrong-form (k .before .before .args .bytes .now) o (k .header-at .ensures) (c .before .before .before .before .before .if1 .left) (not-false (o .checked) (c .before .before .before .if2 .left))
-    (sym (c .before .right-form .ensures) ∙ not-true (c .before .right-form .result) (c .if3 .taken))
+    wrong-form (k .before .before .args .bytes .now) o (k .header-at .ensures) (q .before .before .if1 .left) (not-false (o .checked) (q .if2 .left)) (not-true (formed o) (c .if3 .taken))
 
 add-end : tie.Need-add-end
 add-end c =
-    let k = c .before .before .before .before .before .before .before in
+    let k = c .before .before .before .before .before .before .before .before .before in
     omega (arith, room (k .before .before .args .bytes .now) (k .header-at .result) (k .header-at .ensures))
 
 returns-4 : tie.Need-returns-4
 returns-4 c =
-    let k = c .before .before .before .before .before .before .before .before in
+    let k = c .before .before .before .before .before .before .before .before .before .before in
     let s = sound (c .before .before) in
     too-long (k .before .before .args .bytes .now) (k .header-at .result) (k .header-at .ensures) (s .0) (s .1) (s .2) (c .if4 .taken)
 
@@ -56,14 +53,14 @@ padded-requires c κs = search needs
 
 returns-5 : tie.Need-returns-5
 returns-5 c =
-    let k = c .before .before .before .before .before .before .before .before .before .before in
+    let k = c .before .before .before .before .before .before .before .before .before .before .before .before in
     let s = sound (c .before .before .before .before) in
     wrong-padding (k .before .before .args .bytes .now) (k .header-at .result) (k .header-at .ensures) (s .0) (s .1) (s .2) (c .before .before .if4 .left)
     (sym (c .before .padded .ensures) ∙ not-true (c .before .padded .result) (c .if5 .taken))
 
 returns-6 : tie.Need-returns-6
 returns-6 c =
-    let k = c .before .before .before .before .before .before .before .before .before .before in
+    let k = c .before .before .before .before .before .before .before .before .before .before .before .before in
     let s = sound (c .before .before .before .before) in
     a-message (k .before .before .args .bytes .now) (k .header-at .result) (k .header-at .ensures) (s .0) (s .1) (s .2) (c .before .before .if4 .left)
     (sym (c .before .padded .ensures) ∙ not-false (c .before .padded .result) (c .if5 .left))
@@ -75,7 +72,6 @@ read-spec =
     header-at-requires
     returns
     returns-2
-    right-form-requires
     returns-3
     add-end
     returns-4

@@ -1,13 +1,12 @@
--- `channel::state::keeps_rule` makes the rule's tests one by one. Assumes nothing.
-use borrow.Author.Tests.{le-leb, lt-leb, eq-eqb, ne-eqb}
+-- `channel::state::keeps_rule` makes the rule's tests, by the phase. Assumes nothing.
+use mathlib.Core.Bool.{Bool, _&&_}
+use mathlib.Core.Logic.{⊎-elim}
+use mathlib.Core.Path.{ap, _∙_}
+use lib.Dec.{leb}
 use Rattle.channel.specs.State.{keepsRule}
 use borrow.Author.Needs.{needs}
 use Rattle.channel.proofs.state.keeps_rule.Statement.{statement}
 use Rattle.channel.proofs.state.keeps_rule.Tie as tie
-
-returns : tie.Need-returns
-unfolding keepsRule
-returns c = simp (lt-leb _ _ (c .if1 .taken))
 
 enum-told : tie.Need-enum-told
 enum-told c = search needs
@@ -18,41 +17,11 @@ enum-told-2 c = search needs
 enum-told-3 : tie.Need-enum-told-3
 enum-told-3 c = search needs
 
-returns-2 : tie.Need-returns-2
+returns : tie.Need-returns
 unfolding keepsRule
-returns-2 c = simp (le-leb _ _ (c .before .before .before .if1 .left), c .before .enum-told3 .given .1, lt-leb _ _ (c .if3 .taken))
-
-returns-3 : tie.Need-returns-3
-unfolding keepsRule
-returns-3 c = simp (le-leb _ _ (c .before .before .before .before .if1 .left), c .before .before .enum-told3 .given .1, le-leb _ _ (c .before .if3 .left), lt-leb _ _ (c .if4 .taken))
-
-returns-4 : tie.Need-returns-4
-unfolding keepsRule
-returns-4 c = simp (le-leb _ _ (c .before .before .before .if1 .left), c .before .enum-told .given .1, eq-eqb _ _ (c .if2 .taken))
-
-returns-5 : tie.Need-returns-5
-unfolding keepsRule
-returns-5 c = simp (le-leb _ _ (c .before .before .before .if1 .left), c .before .enum-told .given .1, ne-eqb _ _ (c .if2 .left))
-
-returns-6 : tie.Need-returns-6
-unfolding keepsRule
-returns-6 c = simp (le-leb _ _ (c .before .before .if1 .left), c .enum-told2 .given .1)
-
-returns-7 : tie.Need-returns-7
-unfolding keepsRule
-returns-7 c = simp (le-leb _ _ (c .before .before .before .before .if1 .left), c .before .before .enum-told3 .given .1, le-leb _ _ (c .before .if3 .left), le-leb _ _ (c .if4 .left))
+returns c =
+    ap (λ (held : Bool). leb (c .before .args .channel .expected) 15 && held)
+    (⊎-elim (λ w. w .2 ∙ rw (w .1 .given .1)) (⊎-elim (λ w. w .2 ∙ rw (w .1 .given .1)) (λ w. w .2 ∙ rw (w .1 .given .1))) (c .match .came))
 
 pub keeps-rule-spec : {M : Type 1} → statement M
-keeps-rule-spec =
-    tie.close
-    (tie.spec
-    returns
-    enum-told
-    enum-told-2
-    enum-told-3
-    returns-2
-    returns-3
-    returns-4
-    returns-5
-    returns-6
-    returns-7)
+keeps-rule-spec = tie.close (tie.spec enum-told enum-told-2 enum-told-3 returns)
