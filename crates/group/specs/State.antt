@@ -1,6 +1,6 @@
 -- Document 01, "Group state": a fresh state, the rule of a state, and each message, rule by rule. Assumes nothing.
 use Prim.Native.Nat.{ℕ, _+_, _*_, _%_}
-use mathlib.Core.Bool.{Bool, true, false, not, cond, _&&_}
+use mathlib.Core.Bool.{Bool, not, cond, _&&_, _||_}
 use mathlib.Core.List.{List}
 use lib.Dec.{eqb, leb, ltb}
 use lib.ListN.{length}
@@ -68,6 +68,5 @@ joinOf g m s buffer =
 
 -- a First is in step with any state, another message with one that gathers and has the CI before its own
 abbrev pub inStep : Bool → Phase → ℕ → ℕ → Bool
-inStep true phase ci next = true
-inStep false Idle ci next = false
-inStep false Gathering ci next = eqb next ((ci + 1) % 4)
+inStep first Idle ci next = first
+inStep first Gathering ci next = first || eqb next ((ci + 1) % 4)

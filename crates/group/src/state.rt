@@ -45,30 +45,15 @@ fn keeps_rule(group: Group) -> bool
     let phase = group.phase;
     let held = group.held;
     let messages = group.messages;
-    if LAST_NUMBER < group.number {
-        return false;
-    }
+    let numbered = group.number <= LAST_NUMBER;
     match phase {
-        Phase::Idle => {
-            if held != 0 {
-                return false;
-            }
-            if messages != 0 {
-                return false;
-            }
-            group.ci == 0
-        }
+        Phase::Idle => numbered & ((held == 0) & (messages == 0) & (group.ci == 0)),
         Phase::Gathering => {
-            if messages < 1 {
-                return false;
-            }
-            if Group::MOST_MESSAGES < messages {
-                return false;
-            }
-            if MESSAGE_DATA * (messages as usize) < held {
-                return false;
-            }
-            group.ci <= 3
+            numbered
+                & ((1 <= messages)
+                    & (messages <= Group::MOST_MESSAGES)
+                    & (held <= MESSAGE_DATA * (messages as usize))
+                    & (group.ci <= 3))
         }
     }
 }
@@ -77,29 +62,18 @@ fn keeps_rule(group: Group) -> bool
 pub(crate) fn within_rules(group: Group, message: Fields, length: usize) -> bool
     ensures { λ r. ⌜ r ≡ (keepsRule group && within message length) ⌝ }
 {
-    if !keeps_rule(group) {
-        return false;
-    }
-    if LAST_NUMBER < message.number {
-        return false;
-    }
-    if MESSAGE_DATA < length {
-        return false;
-    }
-    if 3 < message.ri {
-        return false;
-    }
-    message.ci <= 3
+    keeps_rule(group)
+        & ((message.number <= LAST_NUMBER)
+            & (length <= MESSAGE_DATA)
+            & (message.ri <= 3)
+            & (message.ci <= 3))
 }
 
 // Whether a message is of this group: its service number, and no COM.
 pub(crate) fn belongs(group: Group, message: Fields) -> bool
     ensures { λ r. ⌜ r ≡ (eqb (message .number) (group .number) && not (message .command)) ⌝ }
 {
-    if message.number != group.number {
-        return false;
-    }
-    !message.command
+    (message.number == group.number) & !message.command
 }
 
 // What the data is joined on to: a First drops whatever was gathered.
@@ -117,13 +91,10 @@ pub(crate) fn in_step(group: Group, message: Fields) -> bool
     requires { ⌜ group .ci ≤ 3 ⌝ }
     ensures { λ r. ⌜ r ≡ inStep (message .first) (group .phase) (group .ci) (message .ci) ⌝ }
 {
-    if message.first {
-        return true;
-    }
     let phase = group.phase;
     match phase {
-        Phase::Idle => false,
-        Phase::Gathering => message.ci == (group.ci + 1) % 4,
+        Phase::Idle => message.first,
+        Phase::Gathering => message.first | (message.ci == (group.ci + 1) % 4),
     }
 }
 
