@@ -2,10 +2,10 @@
 use mathlib.Core.Path.{_≡_, refl, sym, ap, _∙_, subst}
 use mathlib.Core.Bool.{Bool, true, false, false≢true, _&&_, not, and-eq-true-iff}
 use mathlib.Core.Logic.{inl, inr}
-use lib.Dec.{eqb}
-use borrow.Author.Tests.{eqb-true, eq-eqb, not-true}
+use lib.Dec.{eqb, leb}
+use borrow.Author.Tests.{eqb-true, leb-true, eq-eqb, le-leb, not-true, not-false}
 use mathlib.Core.List.{List, _++_, append-nil}
-use Prim.Native.Nat.{ℕ, _*_, _-_, _≤_, _<_}
+use Prim.Native.Nat.{ℕ, _*_, _≤_}
 use native.Mathlib.Omega.{arith}
 use lib.ListN.{length, take, drop, replicate, length-replicate, drop-of-length-le}
 use lib.Seq.{take-all}
@@ -21,26 +21,25 @@ use Rattle.block.specs.Nearest.{Searched, Puts}
 use Rattle.block.specs.Corrector.{Near, Sized, WrongLength, NoCodeWord, Corrects}
 use Rattle.block.specs.Blocks.{CheckRight, Reads}
 
+-- both tests of the search passed
+pub close : (code : Bool) (n : ℕ) → (code && leb n 8) ≡ true → n ≤ 8
+close code n t = leb-true n 8 (and-eq-true-iff code (leb n 8) .0 t .1)
+
 -- the search: the voted row is tested for a code word and for its distance
 module _ (row word : List Bool) (code : Bool) (l : length row ≡ 272) (voting : word ≡ voted row) (tested : code ≡ allZero (remainder generator 190 word)) where
-  pub no-word : code ≡ false → Searched row false word 0
-  no-word e = record {
-    met = λ t. absurd (false≢true t);
-    missed = λ _ other w d. false≢true
-        (sym e ∙ tested ∙ ap (λ x. allZero (remainder generator 190 x)) voting ∙ accepts row l .1 (record { word = other; code = w; near = d }) .0);
-  }
-
-  pub too-far : (n : ℕ) → n ≡ distance row word → 8 < n → Searched row false word 0
-  too-far n e h = record {
+  pub no-word : (n : ℕ) → n ≡ distance row word → (code && leb n 8) ≡ false → Searched row false word 0
+  no-word n e f = record {
     met = λ t. absurd (false≢true t);
     missed = λ _ other w d.
-        let near : distance row word ≤ 8 = subst (λ (x : List Bool). distance row x ≤ 8) (sym voting) (accepts row l .1 (record { word = other; code = w; near = d }) .1) in
-        omega arith;
+        let a = accepts row l .1 (record { word = other; code = w; near = d }) in
+        let near : distance row word ≤ 8 = subst (λ (x : List Bool). distance row x ≤ 8) (sym voting) (a .1) in
+        let close : n ≤ 8 = omega arith in
+        false≢true (sym f ∙ rw (tested, voting, a .0, le-leb n 8 close));
   }
 
-  pub found : (n : ℕ) → n ≡ distance row word → n ≤ 8 → code ≡ true → Searched row true word n
-  found n e h t = record {
-    met = λ _. record { code = code-tested word (ap length voting ∙ length-voted row ∙ l) .0 (sym tested ∙ t); near = omega arith; counts = e };
+  pub found : (n : ℕ) → n ≡ distance row word → (code && leb n 8) ≡ true → Searched row true word n
+  found n e t = record {
+    met = λ _. record { code = code-tested word (ap length voting ∙ length-voted row ∙ l) .0 (sym tested ∙ and-eq-true-iff code (leb n 8) .0 t .0); near = omega (arith, close code n t); counts = e };
     missed = λ f. absurd (false≢true (sym f));
   }
 
@@ -50,16 +49,14 @@ whole-row bytes l =
     ap (λ xs. rowOf bytes ++ xs) (drop-of-length-le (replicate 272 false) {i = 8 * length bytes} (omega (arith, length-replicate 272 false))) ∙ append-nil (rowOf bytes)
 
 -- the lengths, tested
-pub sized-so : (bytes room : ℕ) (given before : List ℕ) (t : Bool) → t ≡ (eqb (length given) bytes && eqb (length before) room) → t ≡ true
-    → Sized bytes room given before
-sized-so bytes room given before t e h =
-    let b = and-eq-true-iff (eqb (length given) bytes) (eqb (length before) room) .0 (sym e ∙ h) in
+pub sized-so : (bytes room : ℕ) (given before : List ℕ) → not (eqb (length given) bytes && eqb (length before) room) ≡ false → Sized bytes room given before
+sized-so bytes room given before h =
+    let b = and-eq-true-iff (eqb (length given) bytes) (eqb (length before) room) .0 (not-false _ h) in
     record { input = eqb-true _ _ (b .0); output = eqb-true _ _ (b .1) }
 
-pub not-sized : (bytes room : ℕ) (given before : List ℕ) (t : Bool) → t ≡ (eqb (length given) bytes && eqb (length before) room) → t ≡ false
-    → Sized bytes room given before → ⊥
-not-sized bytes room given before t e h z =
-    false≢true (sym h ∙ e ∙ rw (eq-eqb (length given) bytes (z .input), eq-eqb (length before) room (z .output)))
+pub not-sized : (bytes room : ℕ) (given before : List ℕ) → not (eqb (length given) bytes && eqb (length before) room) ≡ true → Sized bytes room given before → ⊥
+not-sized bytes room given before h z =
+    false≢true (rw (eq-eqb (length given) bytes (z .input), eq-eqb (length before) room (z .output)) at h)
 
 pub wrong-length : (room : ℕ) (received before : List ℕ) (answer : Answer) (count : ℕ) → (Sized 34 room received before → ⊥)
     → paper answer ≡ refused 1 → count ≡ 0 → WrongLength room received before before answer count

@@ -2,7 +2,6 @@
 ghost use mathlib.Core.Path.{_≡_};
 ghost use mathlib.Core.Bool.{_&&_, not};
 ghost use Prim.Native.Nat.{_≤_};
-ghost use lib.Dec.{eqb};
 ghost use lib.ListN.{length, take};
 ghost use Rattle.gf2.specs.Poly.{allZero, remainder};
 ghost use Rattle.block.specs.Bytes.{rowOf};
@@ -36,7 +35,7 @@ pub struct Corrected {
 pub fn correct(received: &[u8], out: &mut [u8]) -> Corrected
     ensures { λ r. ⌜ Corrects (now (received .entry)) (now (out .entry)) (now (out .exit)) (r .answer) (r .count) ⌝ }
 {
-    if !sized(received.len(), BLOCK_BYTES, out.len(), BLOCK_BYTES) {
+    if !((received.len() == BLOCK_BYTES) & (out.len() == BLOCK_BYTES)) {
         return refused(Refusal::WrongLength);
     }
     put_word(nearest::nearest(received), out)
@@ -48,7 +47,7 @@ pub fn correct(received: &[u8], out: &mut [u8]) -> Corrected
 pub fn read_block(received: &[u8], out: &mut [u8]) -> Corrected
     ensures { λ r. ⌜ Reads (now (received .entry)) (now (out .entry)) (now (out .exit)) (r .answer) (r .count) ⌝ }
 {
-    if !sized(received.len(), BLOCK_BYTES, out.len(), INFORMATION_BYTES) {
+    if !((received.len() == BLOCK_BYTES) & (out.len() == INFORMATION_BYTES)) {
         return refused(Refusal::WrongLength);
     }
     let found = nearest::nearest(received);
@@ -66,21 +65,11 @@ pub fn read_block(received: &[u8], out: &mut [u8]) -> Corrected
 pub fn write_block(information: &[u8], out: &mut [u8]) -> Answer
     ensures { λ r. ⌜ Writes (now (information .entry)) (now (out .entry)) (now (out .exit)) r ⌝ }
 {
-    if !sized(information.len(), INFORMATION_BYTES, out.len(), BLOCK_BYTES) {
+    if !((information.len() == INFORMATION_BYTES) & (out.len() == BLOCK_BYTES)) {
         return Answer::Refused(Refusal::WrongLength);
     }
     put_block(information, out);
     Answer::Accepted
-}
-
-// Whether the input and the output are as long as they have to be.
-fn sized(input: usize, bytes: usize, output: usize, room: usize) -> bool
-    ensures { λ r. ⌜ r ≡ (eqb input bytes && eqb output room) ⌝ }
-{
-    if input == bytes {
-        return output == room;
-    }
-    false
 }
 
 // Whether a code word was found whose check bits are wrong.

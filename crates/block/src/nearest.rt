@@ -112,23 +112,19 @@ fn search(row: &[bool; 272]) -> Found
     ensures { λ r. ⌜ Searched (now (row .entry)) (r .near) (r .word) (r .count) ⌝ }
 {
     let word = vote(row);
-    let none = Found {
+    let places = distance_of(row, &word);
+    if is_code_word(&word) & (places <= 8) {
+        let count = places as u8;
+        return Found {
+            near: true,
+            word,
+            count,
+        };
+    }
+    Found {
         near: false,
         word,
         count: 0,
-    };
-    if !is_code_word(&word) {
-        return none;
-    }
-    let places = distance_of(row, &word);
-    if 8 < places {
-        return none;
-    }
-    let count = places as u8;
-    Found {
-        near: true,
-        word,
-        count,
     }
 }
 
