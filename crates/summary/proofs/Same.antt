@@ -62,13 +62,13 @@ nan-bits x y e m =
     (λ b. measured-not y m (sym (bits-same nan y (nan-fits binary64) (m .holds) (ap (toBits binary64) (sym e) ∙ b))))
 
 -- the numbers of a summary
-pub mean-measured : (c : Counts) → isCounts c ≡ true → Measured (share (c .bits) (c .read))
+mean-measured : (c : Counts) → isCounts c ≡ true → Measured (share (c .bits) (c .read))
 unfolding isCounts
 mean-measured c e =
     let s = sound c (and-eq-true-iff (isChannel (c .channel)) (isSound c) .0 e .1) in
     measured-share (c .bits) (c .read) (omega (arith, s .few, s .each)) (omega (arith, s .most))
 
-pub missing-measured : (c : Counts) → isCounts c ≡ true → Measured (share (c .missing) (c .slots))
+missing-measured : (c : Counts) → isCounts c ≡ true → Measured (share (c .missing) (c .slots))
 unfolding isCounts
 missing-measured c e =
     let s = sound c (and-eq-true-iff (isChannel (c .channel)) (isSound c) .0 e .1) in
@@ -93,10 +93,6 @@ summary-same s t f g h k e =
     let r = beq-true (s .«missing_exists») (t .«missing_exists») (b .1) in
     let u = bits-same (s .missing) (t .missing) g k (eqb-true (toBits binary64 (s .missing)) (toBits binary64 (t .missing)) (a .1)) in
     λ i. record { «mean_exists» = p i; mean = q i; «missing_exists» = r i; missing = u i }
-
-pub beq-left : (b : Bool) → Bool·beq true b ≡ b
-beq-left true = refl
-beq-left false = refl
 
 pub mean-given : (s : Summary) (c : Counts) → s ≡ summaryOf c → isCounts c ≡ true → Measured (s .mean)
 unfolding summaryOf

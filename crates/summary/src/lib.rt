@@ -4,7 +4,7 @@ mod binary;
 mod text;
 
 ghost use mathlib.Core.Path.{_≡_};
-ghost use mathlib.Core.Bool.{true, Bool·beq};
+ghost use mathlib.Core.Bool.{true};
 ghost use Rattle.band.specs.Band.{kilohertzOf};
 ghost use Rattle.summary.specs.Summary.{told, summaryOf, summarisedOf};
 ghost use Rattle.summary.specs.Summary.{share as Summary·share};
@@ -160,20 +160,10 @@ fn is_summary(given: Summary, counts: Counts) -> bool
     ensures { λ r. ⌜ r ≡ isSummary given (summaryOf counts) ⌝ }
 {
     let own = summary_of(counts);
-    if alike(given.mean_exists, own.mean_exists) {
-        if binary::same_bits(given.mean, own.mean) {
-            if alike(given.missing_exists, own.missing_exists) {
-                return binary::same_bits(given.missing, own.missing);
-            }
-        }
-    }
-    false
-}
-
-fn alike(a: bool, b: bool) -> bool
-    ensures { λ r. ⌜ r ≡ Bool·beq a b ⌝ }
-{
-    if a { b } else { !b }
+    (given.mean_exists == own.mean_exists)
+        & binary::same_bits(given.mean, own.mean)
+        & (given.missing_exists == own.missing_exists)
+        & binary::same_bits(given.missing, own.missing)
 }
 
 fn row_text(counts: Counts, summary: Summary) -> Text
