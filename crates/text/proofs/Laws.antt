@@ -1,17 +1,18 @@
 -- Laws of lists that are read from the front. Assumes nothing.
 use Prim.Native.Nat.{ℕ, zero, suc, _+_, _-_, _*_, _<_, _≤_}
 use mathlib.Core.Path.{_≡_, refl, sym, ap, _∙_}
-use mathlib.Core.Bool.{true, false, and-false, and-eq-true-iff}
+use mathlib.Core.Bool.{Bool, true, false, not, cond, _&&_, _||_, false≢true, and-false, and-eq-true-iff}
 use mathlib.Core.List.{List, [], _∷_, _++_, append-assoc, append-nil}
 use native.Mathlib.Numerals.{add-one}
 use native.Mathlib.Omega.{arith}
 use lib.ListN.{length, getD, set, take, drop, length-drop, drop-of-length-le, take-append-drop}
 use lib.Seq.{drop-cons, drop-drop, drop-set-lt, take-all, take-suc-set}
-use lib.Dec.{ltb, eqb}
-use borrow.Author.Tests.{ltb-true}
+use lib.Dec.{leb, ltb, eqb}
+use borrow.Author.Tests.{leb-true, ltb-true}
 use Rattle.bytes.specs.Bytes.{indexOf, slice}
 use Rattle.text.specs.Fields.{sameAs, fieldOf}
 use Rattle.text.specs.Hexadecimal.{digitOf, hexadecimal, bytesOf}
+use Rattle.text.specs.declared.hexadecimal.Bytes.{Bytes}
 
 -- what is left at an index that is within: an element, and what is left behind it
 pub next : (s : List ℕ) (i : ℕ) → i < length s → drop i s ≡ getD s i 0 ∷ drop (i + 1) s
@@ -35,6 +36,26 @@ pub no-byte : (s : List ℕ) → length s ≡ 1 → bytesOf s ≡ []
 no-byte [] h = refl
 no-byte (a ∷ []) h = refl
 no-byte (a ∷ b ∷ s) h = absurd (omega arith)
+
+-- a byte is in a range
+pub ranged : (low b high : ℕ) → (leb low b && leb b high) ≡ true → (low ≤ b) × (b ≤ high)
+ranged low b high e = let t = and-eq-true-iff (leb low b) (leb b high) .0 e in (leb-true low b (t .0), leb-true b high (t .1))
+
+-- The tests of a field of digits, all at once: what they answer,
+pub at-once : (none odd over digits : Bool) (x y : Bytes) → cond none y (cond odd y (cond over y (cond digits x y))) ≡ cond (none || odd || over || not digits) y x
+at-once true odd over digits x y = refl
+at-once false true over digits x y = refl
+at-once false false true digits x y = refl
+at-once false false false true x y = refl
+at-once false false false false x y = refl
+
+-- and what they tell where none refuses
+pub passed : (none odd over digits : Bool) → (none || odd || over || not digits) ≡ false → (odd ≡ false) × (over ≡ false) × (digits ≡ true)
+passed true odd over digits e = absurd (false≢true (sym e))
+passed false true over digits e = absurd (false≢true (sym e))
+passed false false true digits e = absurd (false≢true (sym e))
+passed false false false true e = (refl, refl, refl)
+passed false false false false e = absurd (false≢true (sym e))
 
 -- each of digits is one
 pub a-digit : (s : List ℕ) → hexadecimal s ≡ true → (i : ℕ) → i < length s → digitOf (getD s i 0) < 16

@@ -15,11 +15,14 @@ pub enum Bytes {
 fn value(digit: u8) -> u8
     ensures { λ r. ⌜ r ≡ digitOf digit ⌝ }
 {
-    match digit {
-        b'0'..=b'9' => digit - b'0',
-        b'a'..=b'f' => digit - b'a' + 10,
-        b'A'..=b'F' => digit - b'A' + 10,
-        _ => 16,
+    if (b'0' <= digit) & (digit <= b'9') {
+        digit - b'0'
+    } else if (b'a' <= digit) & (digit <= b'f') {
+        digit - b'a' + 10
+    } else if (b'A' <= digit) & (digit <= b'F') {
+        digit - b'A' + 10
+    } else {
+        16
     }
 }
 
@@ -65,20 +68,16 @@ pub fn read_bytes(digits: &[u8], output: &mut [u8]) -> Bytes
         }
         return Bytes::Unreadable;
     }
-    if digits.len() == 0 {
-        return Bytes::Unreadable;
-    }
-    if digits.len() % 2 != 0 {
-        return Bytes::Unreadable;
-    }
-    if output.len() < digits.len() / 2 {
-        return Bytes::Unreadable;
-    }
-    if !all_digits(digits) {
+    let count = digits.len() / 2;
+    if (digits.len() == 0)
+        | (digits.len() % 2 != 0)
+        | (output.len() < count)
+        | !all_digits(digits)
+    {
         return Bytes::Unreadable;
     }
     decode(digits, output);
-    Bytes::Are(digits.len() / 2)
+    Bytes::Are(count)
 }
 
 // The digit of a number below 16, in lower case.

@@ -18,10 +18,7 @@ pub fn read_number(digits: &[u8], most: u32) -> Number
     let mut i = 0;
     while i < digits.len() {
         let digit = digits[i];
-        if digit < b'0' {
-            return Number::Unreadable;
-        }
-        if b'9' < digit {
+        if !((b'0' <= digit) & (digit <= b'9')) {
             return Number::Unreadable;
         }
         value = value * 10 + (digit - b'0') as u64;

@@ -1,15 +1,24 @@
 -- `text::hexadecimal::read_bytes`: each answer is a case of `readOf`. Assumes nothing.
-use Prim.Native.Nat.{ℕ}
+use Prim.Native.Nat.{ℕ, _/_, _%_, _≤_}
+use mathlib.Core.Bool.{true}
 use mathlib.Core.List.{List, _++_}
 use mathlib.Core.Path.{ap, _≡_, refl, sym, _∙_}
-use mathlib.Core.Bool.{true, false}
 use native.Mathlib.Omega.{arith}
-use borrow.Author.Tests.{not-true, not-false, eq-eqb, ne-eqb, lt-ltb, le-ltb}
+use lib.Dec.{eqb}
+use lib.ListN.{length}
+use borrow.Author.Tests.{not-false, eqb-true, ltb-false, eq-eqb, ne-eqb}
 use borrow.Author.Needs.{needs}
 use Rattle.text.specs.Hexadecimal.{hexadecimal}
-use Rattle.text.proofs.Laws.{no-byte}
+use Rattle.text.proofs.Laws.{no-byte, at-once, passed}
 use Rattle.text.proofs.hexadecimal.read_bytes.Statement.{statement}
 use Rattle.text.proofs.hexadecimal.read_bytes.Tie as tie
+
+-- no test refuses
+passes : (c : tie.Else3) → let a = c .before .before .before .before .before .args in let s = a .digits .now in (hexadecimal s ≡ true) × ((length s % 2 ≡ 0) × (length s / 2 ≤ length (a .output .now)))
+passes c =
+    let s = c .before .before .before .before .before .args .digits .now in
+    let t = passed (eqb (length s) 0) _ _ _ (c .if3 .left) in
+    (sym (c .before .all-digits .ensures) ∙ t .2, (eqb-true _ _ (not-false _ (t .0)), ltb-false _ _ (t .1)))
 
 shared-slice-read-if2 : tie.Need-shared-slice-read-if2
 shared-slice-read-if2 c = search needs
@@ -25,39 +34,23 @@ returns c =
 returns-2 : tie.Need-returns-2
 returns-2 c = (simp (eq-eqb _ _ (c .before .before .if1 .taken), ne-eqb _ _ (c .if2 .left)), (refl, omega arith))
 
-returns-3 : tie.Need-returns-3
-returns-3 c = (simp (ne-eqb _ _ (c .before .if1 .left), eq-eqb _ _ (c .if3 .taken)), (refl, omega arith))
-
-returns-4 : tie.Need-returns-4
-returns-4 c = (simp (ne-eqb _ _ (c .before .before .if1 .left), ne-eqb _ _ (c .before .if3 .left), ne-eqb _ _ (c .if4 .taken)), (refl, omega arith))
-
-returns-5 : tie.Need-returns-5
-returns-5 c = (simp (ne-eqb _ _ (c .before .before .before .if1 .left), ne-eqb _ _ (c .before .before .if3 .left), eq-eqb _ _ (c .before .if4 .left), lt-ltb _ _ (c .if5 .taken)), (refl, omega arith))
-
 all-digits-requires : tie.Need-all-digits-requires
 all-digits-requires c κs = search needs
 
-returns-6 : tie.Need-returns-6
-returns-6 c =
-    let start = c .before .before .before .before .before .before .before .before in
-    let none : hexadecimal (start .args .digits .now) ≡ false = sym (c .before .all-digits .ensures) ∙ not-true (c .before .all-digits .result) (c .if6 .taken) in (
-      simp (ne-eqb _ _ (c .before .before .before .before .before .if1 .left), ne-eqb _ _ (c .before .before .before .before .if3 .left), eq-eqb _ _ (c .before .before .before .if4 .left), le-ltb _ _ (c .before .before .if5 .left), none),
-      (refl, omega arith),
-    )
+returns-3 : tie.Need-returns-3
+returns-3 c = (rw (ne-eqb _ _ (c .before .before .if1 .left), at-once, ← c .before .all-digits .ensures, c .if3 .taken), (refl, omega arith))
 
 decode-requires : tie.Need-decode-requires
-decode-requires c κs = (sym (c .before .before .all-digits .ensures) ∙ not-false (c .before .before .all-digits .result) (c .before .if6 .left), (c .before .before .before .before .if4 .left, c .before .before .before .if5 .left))
+decode-requires c κs = passes (c .before)
 
 same-length : tie.Need-same-length
 same-length c = search needs
 
-returns-7 : tie.Need-returns-7
-returns-7 c =
-    let d = c .before .before .before .before in
-    let start = d .before .before .before .before .before .before .before .before in
-    let all : hexadecimal (start .args .digits .now) ≡ true = sym (d .before .all-digits .ensures) ∙ not-false (d .before .all-digits .result) (d .if6 .left) in (
-      simp (ne-eqb _ _ (d .before .before .before .before .before .if1 .left), ne-eqb _ _ (d .before .before .before .before .if3 .left), eq-eqb _ _ (d .before .before .before .if4 .left), le-ltb _ _ (d .before .before .if5 .left), all),
-      (c .before .before .decode .ensures, omega (arith, c .before .before .decode .kept, d .before .before .if5 .left)),
+returns-4 : tie.Need-returns-4
+returns-4 c =
+    let d = c .before .before .before .before in (
+      rw (ne-eqb _ _ (d .before .before .if1 .left), at-once, ← d .before .all-digits .ensures, d .if3 .left),
+      (c .before .before .decode .ensures, omega (arith, c .before .before .decode .kept, passes d .1 .1)),
     )
 
 pub read-bytes-spec : {M : Type 1} → statement M
@@ -67,11 +60,8 @@ read-bytes-spec =
     shared-slice-read-if2
     returns
     returns-2
-    returns-3
-    returns-4
-    returns-5
     all-digits-requires
-    returns-6
+    returns-3
     decode-requires
     same-length
-    returns-7)
+    returns-4)

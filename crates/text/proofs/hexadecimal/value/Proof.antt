@@ -1,47 +1,46 @@
--- `text::hexadecimal::value`: each way through the ranges is a case of `digitOf`. Assumes nothing.
-use native.Mathlib.Omega.{arith}
-use borrow.Author.Tests.{le-leb, lt-leb}
+-- `text::hexadecimal::value` makes the tests that `digitOf` has. Assumes nothing.
 use borrow.Author.Needs.{needs}
+use Rattle.text.proofs.Laws.{ranged}
 use Rattle.text.proofs.hexadecimal.value.Statement.{statement}
 use Rattle.text.proofs.hexadecimal.value.Tie as tie
 
+sub-result : tie.Need-sub-result
+sub-result c = ranged 48 _ 57 (c .if1 .taken) .0
+
+sub-result-2 : tie.Need-sub-result-2
+sub-result-2 c = ranged 97 _ 102 (c .if2 .taken) .0
+
 add-result : tie.Need-add-result
 add-result c = search needs
+
+sub-result-3 : tie.Need-sub-result-3
+sub-result-3 c = ranged 65 _ 70 (c .if3 .taken) .0
 
 add-result-2 : tie.Need-add-result-2
 add-result-2 c = search needs
 
 returns : tie.Need-returns
-returns c = let b = c .before .before .args .digit in simp (le-leb 48 b (omega arith), le-leb b 57 (omega arith))
+returns c = rw (c .if1 .taken)
 
 returns-2 : tie.Need-returns-2
-returns-2 c = let b = c .before .before .before .before .args .digit in simp (le-leb 48 b (omega arith), lt-leb b 57 (omega arith), lt-leb 97 b (omega arith), le-leb 65 b (omega arith), le-leb b 70 (omega arith))
+returns-2 c = rw (c .before .if1 .left, c .if2 .taken)
 
 returns-3 : tie.Need-returns-3
-returns-3 c = let b = c .before .before .before .before .before .before .args .digit in simp (le-leb 48 b (omega arith), lt-leb b 57 (omega arith), le-leb 97 b (omega arith), le-leb b 102 (omega arith))
+returns-3 c = rw (c .before .before .if1 .left, c .before .if2 .left, c .if3 .taken)
 
 returns-4 : tie.Need-returns-4
-returns-4 c = let b = c .before .args .digit in simp (lt-leb 48 b (omega arith), lt-leb 97 b (omega arith), lt-leb 65 b (omega arith))
-
-returns-5 : tie.Need-returns-5
-returns-5 c = let b = c .before .before .before .args .digit in simp (le-leb 48 b (omega arith), lt-leb b 57 (omega arith), lt-leb 97 b (omega arith), lt-leb 65 b (omega arith))
-
-returns-6 : tie.Need-returns-6
-returns-6 c = let b = c .before .before .before .before .before .args .digit in simp (le-leb 48 b (omega arith), lt-leb b 57 (omega arith), lt-leb 97 b (omega arith), le-leb 65 b (omega arith), lt-leb b 70 (omega arith))
-
-returns-7 : tie.Need-returns-7
-returns-7 c = let b = c .before .before .before .before .before .before .args .digit in simp (le-leb 48 b (omega arith), lt-leb b 57 (omega arith), le-leb 97 b (omega arith), lt-leb b 102 (omega arith), le-leb 65 b (omega arith), lt-leb b 70 (omega arith))
+returns-4 c = rw (c .before .before .if1 .left, c .before .if2 .left, c .if3 .left)
 
 pub value-spec : {M : Type 1} → statement M
 value-spec =
     tie.close
     (tie.spec
+    sub-result
+    sub-result-2
     add-result
+    sub-result-3
     add-result-2
     returns
     returns-2
     returns-3
-    returns-4
-    returns-5
-    returns-6
-    returns-7)
+    returns-4)

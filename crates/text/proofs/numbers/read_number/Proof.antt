@@ -3,9 +3,9 @@ use Prim.Native.Nat.{_+_, _*_, _-_, _≤_}
 use mathlib.Core.Path.{_≡_, sym, _∙_}
 use native.Mathlib.Omega.{arith}
 use lib.ListN.{getD, length, drop, drop-of-length-le}
-use borrow.Author.Tests.{eq-eqb, ne-eqb, le-leb, lt-leb}
-use Rattle.text.proofs.Laws.{next}
-use Rattle.text.specs.Numbers.{numberOf, digitsFrom}
+use borrow.Author.Tests.{eq-eqb, ne-eqb, le-leb, lt-leb, not-true, not-false}
+use Rattle.text.proofs.Laws.{next, ranged}
+use Rattle.text.specs.Numbers.{numberOf, digitsFrom, decimal}
 use Rattle.text.proofs.numbers.read_number.Statement.{statement}
 use Rattle.text.proofs.numbers.read_number.Tie as tie
 
@@ -14,6 +14,10 @@ Inv-loop digits most value₀ i₀ value i = (i ≤ length digits) × (value ≤
 
 abbrev μ-loop : tie.MeasureT-loop
 μ-loop digits most value₀ i₀ value i = length digits - i
+
+-- the byte is a decimal digit
+a-digit : (c : tie.Else2 Inv-loop μ-loop) → let p = c .before .before .before in let x = getD (p .before .before .args .digits .now) (p .loop .i) 0 in (48 ≤ x) × (x ≤ 57)
+a-digit c = ranged 48 _ 57 (not-false _ (c .if2 .left))
 
 returns : tie.Need-returns Inv-loop μ-loop
 returns c = simp (eq-eqb _ _ (c .if1 .taken))
@@ -28,30 +32,26 @@ returns-2 : tie.Need-returns-2 Inv-loop μ-loop
 returns-2 c =
     let p = c .before .before .before in
     let s = p .before .before .args .digits .now in
-    sym (p .loop .inv .2 ∙ rw (next s (p .loop .i) (omega arith), lt-leb 48 (getD s (p .loop .i) 0) (c .if2 .taken)))
+    sym (p .loop .inv .2 ∙ rw (next s (p .loop .i) (omega arith), not-true (decimal (getD s (p .loop .i) 0)) (c .if2 .taken)))
+
+mul-value : tie.Need-mul-value Inv-loop μ-loop
+mul-value c = omega arith
+
+sub-value : tie.Need-sub-value Inv-loop μ-loop
+sub-value c = a-digit c .0
+
+cast-value : tie.Need-cast-value Inv-loop μ-loop
+cast-value c = omega (arith, a-digit c .1)
+
+add-value : tie.Need-add-value Inv-loop μ-loop
+add-value c = omega (arith, a-digit c .1)
 
 returns-3 : tie.Need-returns-3 Inv-loop μ-loop
 returns-3 c =
     let p = c .before .before .before .before in
     let s = p .before .before .args .digits .now in
     let x = getD s (p .loop .i) 0 in
-    sym (p .loop .inv .2 ∙ rw (next s (p .loop .i) (omega arith), le-leb 48 x (omega arith), lt-leb x 57 (c .if3 .taken)))
-
-mul-value : tie.Need-mul-value Inv-loop μ-loop
-mul-value c = omega arith
-
-cast-value : tie.Need-cast-value Inv-loop μ-loop
-cast-value c = omega arith
-
-add-value : tie.Need-add-value Inv-loop μ-loop
-add-value c = omega arith
-
-returns-4 : tie.Need-returns-4 Inv-loop μ-loop
-returns-4 c =
-    let p = c .before .before .before .before .before in
-    let s = p .before .before .args .digits .now in
-    let x = getD s (p .loop .i) 0 in
-    sym (p .loop .inv .2 ∙ rw (next s (p .loop .i) (omega arith), le-leb 48 x (omega arith), le-leb x 57 (omega arith), lt-leb (p .loop .value * 10 + (x - 48)) (p .before .before .args .most) (c .if4 .taken)))
+    sym (p .loop .inv .2 ∙ rw (next s (p .loop .i) (omega arith), not-false (decimal x) (c .before .if2 .left), lt-leb (p .loop .value * 10 + (x - 48)) (p .before .before .args .most) (c .if3 .taken)))
 
 add-i : tie.Need-add-i Inv-loop μ-loop
 add-i c = omega arith
@@ -61,16 +61,16 @@ loop-less c = omega arith
 
 loop-again : tie.Need-loop-again Inv-loop μ-loop
 loop-again c =
-    let p = c .before .before .before .before .before in
+    let p = c .before .before .before .before in
     let s = p .before .before .args .digits .now in
     let x = getD s (p .loop .i) 0 in
-    (omega arith, c .if4 .left, p .loop .inv .2 ∙ rw (next s (p .loop .i) (omega arith), le-leb 48 x (omega arith), le-leb x 57 (omega arith), le-leb (p .loop .value * 10 + (x - 48)) (p .before .before .args .most) (c .if4 .left)))
+    (omega arith, c .if3 .left, p .loop .inv .2 ∙ rw (next s (p .loop .i) (omega arith), not-false (decimal x) (c .before .if2 .left), le-leb (p .loop .value * 10 + (x - 48)) (p .before .before .args .most) (c .if3 .left)))
 
-cast-t14 : tie.Need-cast-t14 Inv-loop μ-loop
-cast-t14 c = omega arith
+cast-t17 : tie.Need-cast-t17 Inv-loop μ-loop
+cast-t17 c = omega arith
 
-returns-5 : tie.Need-returns-5 Inv-loop μ-loop
-returns-5 c =
+returns-4 : tie.Need-returns-4 Inv-loop μ-loop
+returns-4 c =
     let p = c .before in
     let s = p .before .before .args .digits .now in
     sym (p .loop .inv .2 ∙ rw (drop-of-length-le s {i = p .loop .i} (omega arith)))
@@ -85,13 +85,13 @@ read-number-spec =
     loop-holds
     shared-slice-read-digit
     returns-2
-    returns-3
     mul-value
+    sub-value
     cast-value
     add-value
-    returns-4
+    returns-3
     add-i
     loop-less
     loop-again
-    cast-t14
-    returns-5)
+    cast-t17
+    returns-4)
