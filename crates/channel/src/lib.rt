@@ -28,12 +28,13 @@ pub enum Phase {
     Gathering,
 }
 
-// A channel: the bytes gathered so far stand in front, and `expected` is the SC of the next block.
+// A channel: `expected` is the SC of the next block, and the bytes gathered so far are the first of `bytes`. These stand last in the
+// struct, which saves a copy of them at each step.
 pub struct Channel {
-    pub bytes: [u8; MESSAGE_BYTES],
     pub gathered: usize,
     pub phase: Phase,
     pub expected: u8,
+    pub bytes: [u8; MESSAGE_BYTES],
 }
 
 // The header of a message: its fields but for RFA and CAF, which are zero; `number` is the service number, `length`
