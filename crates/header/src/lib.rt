@@ -30,7 +30,7 @@ pub fn check(fields: u64) -> u64
     bits
 }
 
-// Whether the number of ones is odd.
+// 1 where a number has an odd number of ones, else 0.
 fn parity(x: u64) -> u64
     ensures { λ r. ⌜ (r ≡ ones x % 2) × (r < 2) ⌝ }
 {
