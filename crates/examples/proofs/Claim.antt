@@ -3,27 +3,32 @@ use mathlib.Core.Path.{_≡_, refl, sym, ap, _∙_, subst}
 use mathlib.Core.Bool.{Bool, true, false, _&&_, false≢true}
 use mathlib.Core.List.{List, [], _∷_, _++_}
 use mathlib.Core.Logic.{inl, inr}
-use Prim.Native.Nat.{ℕ, zero, suc, _+_, _≤_, _<_}
+use Prim.Native.Nat.{ℕ, zero, suc, _+_, _*_, _≤_, _<_}
 use native.Mathlib.Omega.{arith}
-use lib.Dec.{T, ltb, ltb→lt, lit≤, lit<}
+use borrow.Author.Tests.{le-leb, lt-leb}
+use lib.Dec.{T, eqb, leb, ltb, ltb→lt, lit≤, lit<}
 use lib.Ieee.Fits.{and-l, and-r}
 use lib.ListN.{length, getD, replicate}
+use Rattle.answers.specs.Numbers.{accepted, refused}
+use Rattle.answers.specs.Rules.{unless}
 use Rattle.code.specs.Code.{generator, CodeWord, distance}
 use Rattle.code.proofs.Majority.{only-word, nine-away}
 use Rattle.block.specs.Bytes.{AreBytes, bitOf, rowOf}
 use Rattle.block.specs.Blocks.{checkDivisor, CheckRight}
 use Rattle.block.proofs.Bytes.{row-once, length-rowOf}
 use Rattle.header.specs.Check.{bits, check}
-use Rattle.channel.specs.declared.Phase.{Phase}
-use Rattle.channel.specs.declared.Phase.the-variants.{Waiting, Ready}
+use Rattle.header.specs.Fields.{field, holds}
+use Rattle.channel.specs.declared.Channel.{Channel}
 use Rattle.channel.specs.Answers as channel
-use Rattle.channel.specs.Answers.{Left, leaves}
+use Rattle.channel.specs.Answers.{leaves}
+use Rattle.channel.specs.Layer3.{layer3, headerOf, lfOf, scOf}
 use Rattle.channel.specs.Layer4.{sizeOf, blocksFor}
-use Rattle.channel.specs.State.{channelOf, fresh, keepsRule, asWaiting, advanced, stepOf}
+use Rattle.channel.specs.State.{fresh, keepsRule, asWaiting, advanced, stepOf}
+use Rattle.writer.specs.Message.{Written, written, writeMessageOf, messageBlocks}
+use Rattle.writer.proofs.Laws.{within-true}
 use Rattle.writer.proofs.Writing.{message-count}
-use Rattle.answers.specs.Numbers.{accepted}
-use Rattle.band.specs.Band.{Told, kilohertzOf}
-use Rattle.examples.specs.Table.{header, khz, reserved, blocks, word, noWord, wrongCheck, Holds, AllHold, zeros, generatorBlock, tenCleared, nineCleared, table}
+use Rattle.band.specs.Band.{Told}
+use Rattle.examples.specs.Table.{word, noWord, generatorLast, wrongCheck, clearedWord, clearedNoWord, headerHolds, headerRefused, khz, reserved, short, extended, Holds, AllHold, Cleared, Fills, zeros, generatorBlock, table}
 
 -- numbers below 256, by one computed test
 abbrev allBytes : List ℕ → Bool
@@ -70,6 +75,10 @@ zero-code : CodeWord (rowOf (zeros 34))
 unfolding rowOf bitOf generator
 zero-code = record { quotient = replicate 190 false; long = refl; product = refl }
 
+p4-generator : Holds (generatorLast generatorBlock 18)
+unfolding rowOf bitOf generator
+p4-generator = (refl, refl)
+
 generator-code : CodeWord (rowOf generatorBlock)
 unfolding rowOf bitOf generator
 generator-code = record { quotient = replicate 189 false ++ (true ∷ []); long = refl; product = refl }
@@ -99,54 +108,95 @@ p4-read : Holds (wrongCheck generatorBlock 0)
 unfolding rowOf bitOf
 p4-read = wrongCheck-holds generatorBlock refl generator-code refl generator-check
 
-p5 : Holds (word tenCleared (zeros 34) 8)
+-- the ones that are cleared and those that are left are the ones of the whole
+ones-left : (n : ℕ) (row whole : List Bool) → length row ≡ n → length whole ≡ n → ((p : ℕ) → getD row p false ≡ true → getD whole p false ≡ true)
+    → distance row whole + distance row (replicate n false) ≡ distance whole (replicate n false)
+ones-left n [] [] l k within = refl
+ones-left n [] (w ∷ whole) l k within = absurd (omega arith)
+ones-left n (r ∷ row) [] l k within = absurd (omega arith)
+ones-left zero (r ∷ row) (w ∷ whole) l k within = absurd (omega arith)
+ones-left (suc n) (true ∷ row) (false ∷ whole) l k within = absurd (false≢true (within zero refl))
+ones-left (suc n) (true ∷ row) (true ∷ whole) l k within = omega (arith, ones-left n row whole (omega arith) (omega arith) (λ p. within (suc p)))
+ones-left (suc n) (false ∷ row) (true ∷ whole) l k within = omega (arith, ones-left n row whole (omega arith) (omega arith) (λ p. within (suc p)))
+ones-left (suc n) (false ∷ row) (false ∷ whole) l k within = omega (arith, ones-left n row whole (omega arith) (omega arith) (λ p. within (suc p)))
+
+zero-row : rowOf (zeros 34) ≡ replicate 272 false
 unfolding rowOf bitOf
-p5 = word-holds tenCleared (zeros 34) 8 refl refl (bytes (zeros 34) tt) zero-code refl (lit≤ tt)
+zero-row = refl
 
-p5-nine : Holds (noWord nineCleared)
-unfolding rowOf bitOf
-p5-nine = noWord-holds nineCleared (zeros 34) refl zero-code refl
+-- so far from the zero word is what is left of the 18
+left : (ones : ℕ) (received : List ℕ) → Cleared ones received → ones + distance (rowOf received) (rowOf (zeros 34)) ≡ 18
+left ones received c =
+    (λ i. sym (c .differs) i + distance (rowOf received) (zero-row i))
+    ∙ ones-left 272 (rowOf received) (rowOf generatorBlock) (length-rowOf received ∙ ap (λ (n : ℕ). 8 * n) (c .long)) (length-rowOf generatorBlock) (c .within)
+    ∙ p4-generator .1
 
--- what a fresh channel does with a header
-header-holds : (first second number : ℕ) (phase : Phase) (expected : ℕ)
-    → stepOf fresh (first ∷ second ∷ zeros 20) ≡ leaves (channel.refused number) (channelOf (replicate 260 0) 0 phase expected)
-    → Holds (header first second number phase expected)
-header-holds first second number phase expected s r e =
-    (ap (λ (l : Left). l .answer) (e ∙ s), ap (λ (l : Left). l .channel .phase) (e ∙ s), ap (λ (l : Left). l .channel .expected) (e ∙ s))
+clearedWord-holds : (ones count : ℕ) → ones + count ≡ 18 → count ≤ 8 → Holds (clearedWord ones (zeros 34) count)
+clearedWord-holds ones count whole near received c =
+    word-holds received (zeros 34) count (c .long) refl (bytes (zeros 34) tt) zero-code (omega (arith, left ones received c)) near
 
-p6 : Holds (header 164 25 8 Ready 1)
-unfolding stepOf fresh keepsRule advanced asWaiting check bits
-p6 = header-holds 164 25 8 Ready 1 refl
+clearedNoWord-holds : (ones : ℕ) → ones + 9 ≡ 18 → Holds (clearedNoWord ones)
+clearedNoWord-holds ones whole received c = noWord-holds received (zeros 34) (c .long) zero-code (omega (arith, left ones received c))
 
-p7 : Holds (header 164 24 4 Waiting 0)
-unfolding stepOf fresh keepsRule check bits
-p7 = header-holds 164 24 4 Waiting 0 refl
+-- with a right state and a right length the header decides
+module _ (c : Channel) (first second : ℕ) (twenty : List ℕ) where
+  abbrev h : ℕ
+  h = headerOf (first ∷ second ∷ [])
 
-p8 : Holds (header 0 0 5 Waiting 0)
-unfolding stepOf fresh keepsRule
-p8 = header-holds 0 0 5 Waiting 0 refl
+  by-header : keepsRule c ≡ true → length twenty ≡ 20
+      → stepOf c (first ∷ second ∷ twenty) ≡ unless (eqb (field layer3 0 h) 10) (leaves (channel.refused 5) c)
+      (unless (holds 10 h) (leaves (channel.refused 4) c) (advanced c (lfOf h) (scOf h) twenty))
+  unfolding stepOf
+  by-header rule long = simp (rule, long)
 
-khz-holds : (number kilohertz : ℕ) → kilohertzOf (record { 0 = number }) ≡ record { answer = accepted; number = kilohertz } → Holds (khz number kilohertz)
-khz-holds number kilohertz s r e = (ap (λ (t : Told). t .answer) (e ∙ s), ap (λ (t : Told). t .number) (e ∙ s))
+p6 : Holds (headerHolds 164 25 1)
+unfolding fresh keepsRule advanced asWaiting check bits
+p6 twenty r long e = e ∙ by-header fresh 164 25 twenty refl long
+
+p7 : Holds (headerRefused 164 24 4)
+unfolding check bits
+p7 c twenty r rule long e = e ∙ by-header c 164 24 twenty rule long
+
+p8 : Holds (headerRefused 0 0 5)
+p8 c twenty r rule long e = e ∙ by-header c 0 0 twenty rule long
+
+both : {s t : Told} → s ≡ t → (s .answer ≡ t .answer) × (s .number ≡ t .number)
+both e = (ap (λ (t : Told). t .answer) e, ap (λ (t : Told). t .number) e)
 
 p9-first : Holds (khz 1 87600)
-p9-first = khz-holds 1 87600 refl
+p9-first r e = both e
 
 p9-last : Holds (khz 204 107900)
-p9-last = khz-holds 204 107900 refl
+p9-last r e = both e
 
 p10 : Holds (reserved 205)
-p10 r e = (ap (λ (t : Told). t .answer) e, ap (λ (t : Told). t .number) e)
+p10 = (λ r e. both e, λ r e. both e)
 
-blocks-holds : (ext : Bool) (bytes count : ℕ) → blocksFor (sizeOf ext + bytes) ≡ count → Holds (blocks ext bytes count)
-blocks-holds ext bytes count e m di sc s form long = message-count m di sc s ∙ (λ i. blocksFor (sizeOf (form i) + long i)) ∙ e
+-- a number below 512 is written without EXT, a greater one with it; the rest is the size of the header
+fills : (ext : Bool) (least most bytes blocks : ℕ) → ((n : ℕ) → least ≤ n → n ≤ most → leb 512 n ≡ ext) → most ≤ 16383 → bytes ≤ 255
+    → blocksFor (sizeOf ext + bytes) ≡ blocks → Fills least most bytes blocks
+unfolding writeMessageOf
+fills ext least most bytes blocks form known few fit m di sc s before after r ri ci low high sc-fits long room w =
+    let count : blocksFor (sizeOf (leb 512 (m .number)) + length s) ≡ blocks = (λ i. blocksFor (sizeOf (form (m .number) low high i) + long i)) ∙ fit in
+    let takes : writeMessageOf m di sc s (length before) ≡ written accepted (messageBlocks m di sc s) =
+    (λ i. unless (within-true m sc (length s) (omega arith) (omega arith) (omega arith) (omega arith) (omega arith) i) (written (refused 11) [])
+    (unless (le-leb (22 * blocksFor (sizeOf (leb 512 (m .number)) + length s)) (length before) (omega arith) i) (written (refused 10) [])
+    (written accepted (messageBlocks m di sc s)))) in
+    (w .answer ∙ ap (λ (t : Written). t .answer) takes, w .blocks ∙ ap (λ (t : Written). length (t .blocks)) takes ∙ message-count m di sc s ∙ count)
 
-p11 : Holds (blocks false 16 1)
-p11 = blocks-holds false 16 1 refl
+short-holds : (bytes blocks : ℕ) → bytes ≤ 255 → blocksFor (4 + bytes) ≡ blocks → Holds (short bytes blocks)
+short-holds bytes blocks = fills false 0 511 bytes blocks (λ n l h. lt-leb 512 n (omega arith)) (lit≤ tt)
 
-p12 : Holds (blocks false 17 2)
-p12 = blocks-holds false 17 2 refl
+extended-holds : (bytes blocks : ℕ) → bytes ≤ 255 → blocksFor (5 + bytes) ≡ blocks → Holds (extended bytes blocks)
+extended-holds bytes blocks = fills true 512 16383 bytes blocks (λ n l h. le-leb 512 n (omega arith)) (lit≤ tt)
+
+-- the examples one after another, as the table has them
+infixr 5 _and_
+_and_ : {A B : Type 0} → A → B → A × B
+a and b = (a, b)
 
 pub claim : AllHold table
 claim =
-    (p1, (p2, (p3, (p4, (p4-read, (p5, (p5-nine, (p6, (p7, (p8, (p9-first, (p9-last, (p10, (p11, (p12, tt)))))))))))))))
+    p1 and p2 and p3 and p4-generator and p4 and p4-read and clearedWord-holds _ _ refl (lit≤ tt) and clearedNoWord-holds _ refl and p6 and p7 and p8
+    and p9-first and p9-last and p10 and short-holds _ _ (lit≤ tt) refl and short-holds _ _ (lit≤ tt) refl and extended-holds _ _ (lit≤ tt) refl
+    and short-holds _ _ (lit≤ tt) refl and extended-holds _ _ (lit≤ tt) refl and tt

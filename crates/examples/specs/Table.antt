@@ -1,24 +1,25 @@
 -- Document 01, "Examples on each side": the examples marked P, in its order, and what each one claims of every outcome
 -- that the promises allow. Assumes nothing.
 use mathlib.Core.Path.{_≡_}
-use mathlib.Core.Bool.{Bool, false}
+use mathlib.Core.Bool.{Bool, true, false}
 use mathlib.Core.List.{List, [], _∷_, _++_}
-use Prim.Native.Nat.{ℕ}
-use lib.Dec.{leb}
-use lib.ListN.{length, replicate}
+use Prim.Native.Nat.{ℕ, _*_, _≤_}
+use lib.ListN.{length, getD, replicate}
 use Rattle.answers.specs.declared.Answer.{Answer}
 use Rattle.answers.specs.Numbers.{accepted, refused, paper}
-use Rattle.block.specs.Bytes.{AreBytes}
+use Rattle.code.specs.Code.{generator, distance}
+use Rattle.block.specs.Bytes.{AreBytes, rowOf}
 use Rattle.block.specs.Corrector.{Corrects}
 use Rattle.block.specs.Blocks.{Reads}
-use Rattle.channel.specs.declared.Phase.{Phase}
-use Rattle.channel.specs.declared.Phase.the-variants.{Waiting, Ready}
+use Rattle.channel.specs.declared.Channel.{Channel}
+use Rattle.channel.specs.declared.Phase.the-variants.{Ready}
 use Rattle.channel.specs.declared.Stepped.{Stepped}
 use Rattle.channel.specs.declared.Fields.{Fields}
 use Rattle.channel.specs.Answers as channel
-use Rattle.channel.specs.Answers.{outcome}
-use Rattle.channel.specs.State.{fresh, stepOf}
-use Rattle.writer.specs.Message.{messageBlocks}
+use Rattle.channel.specs.Answers.{leaves}
+use Rattle.channel.specs.State.{channelOf, fresh, keepsRule, stepOf}
+use Rattle.writer.specs.declared.Wrote.{Wrote}
+use Rattle.writer.specs.Message.{writeMessageOf, Writes}
 use Rattle.band.specs.declared.KilohertzAnswer.{KilohertzAnswer}
 use Rattle.band.specs.declared.ChannelAnswer.{ChannelAnswer}
 use Rattle.band.specs.Band.{toldKilohertz, kilohertzOf, toldChannel, numberedOf}
@@ -28,67 +29,103 @@ pub data Example : Type 0 where
   word : (received corrected : List ℕ) (count : ℕ) → Example
   -- the corrector answers 2
   noWord : (received : List ℕ) → Example
+  -- these bytes are the generator itself in the last 83 positions, and have so many ones
+  generatorLast : (block : List ℕ) (ones : ℕ) → Example
   -- the block reader answers 3 with this count
   wrongCheck : (received : List ℕ) (count : ℕ) → Example
-  -- a fresh channel answers an information block that begins with this header with this number, and is then in this
-  -- phase, expecting this SC: so a header holds that takes the waiting channel (answer 8) to ready
-  header : (first second number : ℕ) (phase : Phase) (expected : ℕ) → Example
+  -- the generator with so many of its ones cleared, whichever: the corrector answers with this word and this count
+  clearedWord : (ones : ℕ) (corrected : List ℕ) (count : ℕ) → Example
+  -- the generator with so many of its ones cleared, whichever: the corrector answers 2
+  clearedNoWord : (ones : ℕ) → Example
+  -- this header holds, with LF set: with any twenty data bytes it takes a fresh channel (answer 8) from waiting to ready,
+  -- expecting this SC
+  headerHolds : (first second expected : ℕ) → Example
+  -- this header is refused with this number: with any twenty data bytes, and in any state that keeps its rule, which is
+  -- left as it was
+  headerRefused : (first second number : ℕ) → Example
   -- a channel number has this many kHz
   khz : (channel kilohertz : ℕ) → Example
-  -- a channel number is refused
+  -- a channel number is refused, where the channel and where its kHz are asked for
   reserved : (channel : ℕ) → Example
-  -- a message whose number wants this EXT fills so many blocks with so many data bytes
-  blocks : (ext : Bool) (bytes count : ℕ) → Example
+  -- short header with so many data bytes: so many blocks
+  short : (bytes blocks : ℕ) → Example
+  -- extended header with so many data bytes: so many blocks
+  extended : (bytes blocks : ℕ) → Example
 
 abbrev pub zeros : ℕ → List ℕ
 zeros n = replicate n 0
 
--- the generator itself in the last 83 positions
+-- the generator itself in the last 83 positions: the table claims that it is
 abbrev pub generatorBlock : List ℕ
 generatorBlock = zeros 23 ++ (32 ∷ 12 ∷ 49 ∷ 128 ∷ 136 ∷ 128 ∷ 40 ∷ 128 ∷ 34 ∷ 32 ∷ 136 ∷ [])
 
--- the same with the last ten, and with the last nine, of its 18 ones cleared
-abbrev pub tenCleared : List ℕ
-tenCleared = zeros 23 ++ (32 ∷ 12 ∷ 49 ∷ 128 ∷ 8 ∷ zeros 6)
-
-abbrev pub nineCleared : List ℕ
-nineCleared = zeros 23 ++ (32 ∷ 12 ∷ 49 ∷ 128 ∷ 136 ∷ zeros 6)
+-- the same with so many of its ones cleared: it differs in so many places, and a one of it is always one of the generator's
+pub record Cleared (ones : ℕ) (received : List ℕ) : Type 0 where
+  pub long : length received ≡ 34
+  pub differs : distance (rowOf received) (rowOf generatorBlock) ≡ ones
+  pub within : (p : ℕ) → getD (rowOf received) p false ≡ true → getD (rowOf generatorBlock) p false ≡ true
 
 abbrev pub table : List Example
 table =
     -- P1, P2, P3
     word (zeros 34) (zeros 34) 0 ∷ word (255 ∷ zeros 33) (zeros 34) 8 ∷ noWord (255 ∷ 1 ∷ zeros 32)
     -- P4
-    ∷ word generatorBlock generatorBlock 0 ∷ wrongCheck generatorBlock 0
+    ∷ generatorLast generatorBlock 18 ∷ word generatorBlock generatorBlock 0 ∷ wrongCheck generatorBlock 0
     -- P5
-    ∷ word tenCleared (zeros 34) 8 ∷ noWord nineCleared
-    -- P6, P7, P8
-    ∷ header 164 25 8 Ready 1 ∷ header 164 24 4 Waiting 0 ∷ header 0 0 5 Waiting 0
+    ∷ clearedWord 10 (zeros 34) 8 ∷ clearedNoWord 9
+    -- P6 A4 19, P7 A4 18, P8 a zero header
+    ∷ headerHolds 164 25 1 ∷ headerRefused 164 24 4 ∷ headerRefused 0 0 5
     -- P9, P10
     ∷ khz 1 87600 ∷ khz 204 107900 ∷ reserved 205
-    -- P11, P12
-    ∷ blocks false 16 1 ∷ blocks false 17 2 ∷ []
+    -- P11, P12, and what stands beside them: no data, with either header
+    ∷ short 16 1 ∷ short 17 2 ∷ extended 255 13 ∷ short 0 1 ∷ extended 0 1 ∷ []
 
-abbrev pub Holds : Example → Type 0
-Holds (word received corrected count) =
+-- every outcome of the corrector for these bytes: accepted, with this word and this count
+abbrev pub GivesWord : (received corrected : List ℕ) (count : ℕ) → Type 0
+GivesWord received corrected count =
     (before after : List ℕ) (answer : Answer) (n : ℕ) → length before ≡ 34 → AreBytes after → Corrects received before after answer n
     → (paper answer ≡ accepted) × (after ≡ corrected) × (n ≡ count)
-Holds (noWord received) =
+
+-- every outcome of the corrector for these bytes: answer 2, count 0, the output as before
+abbrev pub GivesNoWord : (received : List ℕ) → Type 0
+GivesNoWord received =
     (before after : List ℕ) (answer : Answer) (n : ℕ) → length before ≡ 34 → Corrects received before after answer n
     → (paper answer ≡ refused 2) × (after ≡ before) × (n ≡ 0)
+
+-- every outcome of the message writer for fields within their widths, a number from `least` to `most`, so many data bytes
+-- and room enough: accepted, with so many blocks
+abbrev pub Fills : (least most bytes blocks : ℕ) → Type 0
+Fills least most bytes blocks =
+    (m : Fields) (di : Bool) (sc : ℕ) (s before after : List ℕ) (r : Wrote) → m .ri ≤ 3 → m .ci ≤ 3 → least ≤ m .number → m .number ≤ most → sc ≤ 15
+    → length s ≡ bytes → 22 * blocks ≤ length before → Writes (writeMessageOf m di sc s (length before)) r before after
+    → (paper (r .answer) ≡ accepted) × (r .blocks ≡ blocks)
+
+abbrev pub Holds : Example → Type 0
+Holds (word received corrected count) = GivesWord received corrected count
+Holds (noWord received) = GivesNoWord received
+Holds (generatorLast block ones) =
+    (rowOf block ≡ replicate 189 false ++ (true ∷ generator)) × (distance (rowOf block) (replicate 272 false) ≡ ones)
 Holds (wrongCheck received count) =
     (before after : List ℕ) (answer : Answer) (n : ℕ) → length before ≡ 22 → Reads received before after answer n
     → (paper answer ≡ refused 3) × (after ≡ before) × (n ≡ count)
-Holds (header first second number phase expected) =
-    (r : Stepped) → channel.paper r ≡ stepOf fresh (first ∷ second ∷ zeros 20)
-    → (outcome (r .answer) ≡ channel.refused number) × (r .channel .phase ≡ phase) × (r .channel .expected ≡ expected)
+Holds (clearedWord ones corrected count) = (received : List ℕ) → Cleared ones received → GivesWord received corrected count
+Holds (clearedNoWord ones) = (received : List ℕ) → Cleared ones received → GivesNoWord received
+Holds (headerHolds first second expected) =
+    (twenty : List ℕ) (r : Stepped) → length twenty ≡ 20 → channel.paper r ≡ stepOf fresh (first ∷ second ∷ twenty)
+    → channel.paper r ≡ leaves (channel.refused 8) (channelOf (zeros 260) 0 Ready expected)
+Holds (headerRefused first second number) =
+    (c : Channel) (twenty : List ℕ) (r : Stepped) → keepsRule c ≡ true → length twenty ≡ 20 → channel.paper r ≡ stepOf c (first ∷ second ∷ twenty)
+    → channel.paper r ≡ leaves (channel.refused number) c
 Holds (khz channel kilohertz) =
     (r : KilohertzAnswer) → toldKilohertz r ≡ kilohertzOf (record { 0 = channel })
     → (paper (r .answer) ≡ accepted) × (r .kilohertz .0 ≡ kilohertz)
 Holds (reserved channel) =
-    (r : ChannelAnswer) → toldChannel r ≡ numberedOf channel → (paper (r .answer) ≡ refused 11) × (r .channel .0 ≡ 0)
-Holds (blocks ext bytes count) =
-    (m : Fields) (di : Bool) (sc : ℕ) (s : List ℕ) → leb 512 (m .number) ≡ ext → length s ≡ bytes → length (messageBlocks m di sc s) ≡ count
+    ((r : ChannelAnswer) → toldChannel r ≡ numberedOf channel → (paper (r .answer) ≡ refused 11) × (r .channel .0 ≡ 0))
+    × ((r : KilohertzAnswer) → toldKilohertz r ≡ kilohertzOf (record { 0 = channel })
+    → (paper (r .answer) ≡ refused 11) × (r .kilohertz .0 ≡ 0))
+-- a number below 512 is written without EXT, a greater one with it
+Holds (short bytes blocks) = Fills 0 511 bytes blocks
+Holds (extended bytes blocks) = Fills 512 16383 bytes blocks
 
 abbrev pub AllHold : List Example → Type 0
 AllHold [] = Unit {0}
