@@ -1,23 +1,38 @@
 -- No two outcomes of a public function meet its promise. Assumes nothing.
 use Prim.Native.Nat.{ℕ}
-use mathlib.Core.Path.{_≡_, ap}
+use mathlib.Core.Path.{_≡_, ap, sym, _∙_}
 use mathlib.Core.List.{List}
 use Rattle.answers.proofs.Determined.{paper-once}
+use Rattle.log.specs.declared.Counts.{Counts}
+use Rattle.summary.specs.declared.Summary.{Summary}
 use Rattle.summary.specs.declared.Summarised.{Summarised}
 use Rattle.summary.specs.declared.Written.{Written}
-use Rattle.summary.specs.Summary.{Told, told}
-use Rattle.summary.specs.Report.{Told as Report·Told, told as Report·told}
+use Rattle.summary.specs.Summary.{Told, told, summarisedOf}
+use Rattle.summary.specs.Report.{Told as Report·Told, told as Report·told, reportedOf}
+use Rattle.summary.specs.Export.{exportedOf}
 
--- `summarise`
-pub summary-once : (a b : Summarised) → told a ≡ told b → a ≡ b
-summary-once a b e =
-    let p = paper-once (a .answer) (b .answer) (ap (λ (t : Told). t .answer) e) in
+-- THE PROMISE OF `summarise` DETERMINES THE ANSWER AND THE RECORD
+pub summarise-once : (counts : Counts) (r s : Summarised) → told r ≡ summarisedOf counts → told s ≡ summarisedOf counts → r ≡ s
+summarise-once counts r s u v =
+    let e = u ∙ sym v in
+    let p = paper-once (r .answer) (s .answer) (ap (λ (t : Told). t .answer) e) in
     let q = ap (λ (t : Told). t .summary) e in
     λ i. record { answer = p i; summary = q i }
 
--- `report` and `export`: the answer, the length and every byte of the output
-pub written-once : (a b : Written) (out rest : List ℕ) → Report·told a out ≡ Report·told b rest → (a ≡ b) × (out ≡ rest)
-written-once a b out rest e =
-    let p = paper-once (a .answer) (b .answer) (ap (λ (t : Report·Told). t .answer) e) in
+-- the answer, the length and every byte of the output
+written-once : (r s : Written) (x y : List ℕ) (t : Report·Told) → Report·told r x ≡ t → Report·told s y ≡ t → (r ≡ s) × (x ≡ y)
+written-once r s x y t u v =
+    let e = u ∙ sym v in
+    let p = paper-once (r .answer) (s .answer) (ap (λ (t : Report·Told). t .answer) e) in
     let q = ap (λ (t : Report·Told). t .length) e in
     (λ i. record { answer = p i; length = q i }, ap (λ (t : Report·Told). t .out) e)
+
+-- THAT OF `report` THE ANSWER, THE LENGTH AND EVERY BYTE
+pub report-once : (counts : Counts) (out x y : List ℕ) (r s : Written) → Report·told r x ≡ reportedOf counts out → Report·told s y ≡ reportedOf counts out
+    → (r ≡ s) × (x ≡ y)
+report-once counts out x y r s = written-once r s x y (reportedOf counts out)
+
+-- AND SO THAT OF `export`
+pub export-once : (counts : Counts) (summary : Summary) (out x y : List ℕ) (r s : Written) → Report·told r x ≡ exportedOf counts summary out
+    → Report·told s y ≡ exportedOf counts summary out → (r ≡ s) × (x ≡ y)
+export-once counts summary out x y r s = written-once r s x y (exportedOf counts summary out)
