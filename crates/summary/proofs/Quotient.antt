@@ -1,8 +1,8 @@
--- A quotient of two counts: finite, not negative, at most 8, and 0 or at least 2 ^ -20. Assumes nothing.
+-- Counts turn into binary64 without loss; a quotient of two is finite, not negative, at most 8, and 0 or at least 2 ^ -20. Assumes nothing.
 use Prim.Native.Nat.{ℕ, suc, zero, _*_, _^_, _<_, _≤_}
 use mathlib.Core.Path.{_≡_, refl, ap, sym, _∙_, subst}
 use mathlib.Core.Logic.{inl, inr}
-use mathlib.Core.Bool.{true, false, true≢false}
+use mathlib.Core.Bool.{true, false, true≢false, and-eq-true-iff}
 use native.Mathlib.Nat.{mul-comm, mul-assoc, mul-left-comm, mul-one, zero-mul, lt-irrefl, mul-pos}
 use native.Mathlib.Omega.{arith}
 use lib.Dec.{T, lit<}
@@ -16,7 +16,11 @@ use lib.Ieee.Order.{round-mono}
 use lib.Ieee.Scale.{round-same}
 use lib.Ieee.Positive.{num, den, own-value, positive-of-value, between, values-of-le}
 use borrow.Author.Tests.{ne-eqb}
-use Rattle.summary.specs.Summary.{quotient, share}
+use Rattle.log.proofs.Sound.{Sound, sound}
+use Rattle.log.specs.declared.Counts.{Counts}
+use Rattle.log.specs.Log.{isCounts, isSound}
+use Rattle.band.specs.Band.{isChannel}
+use Rattle.summary.specs.Summary.{turned, quotient, share, WithoutLoss}
 use Rattle.summary.specs.Building.{Measured}
 
 div-at : (x y : Float) (a b : ℕ) → HasValue x false a 1 → HasValue y false b 1 → 1 ≤ b → div binary64 x y ≡ round binary64 false a b
@@ -42,10 +46,28 @@ div-at (fin false m e) (fin false n d) a b p q h =
     some : (n u : ℕ) → 0 < n * u → n ≡ 0 → ⊥
     some n u h z = lt-irrefl 0 (subst (λ (k : ℕ). 0 < k) (ap (λ (k : ℕ). k * u) z ∙ zero-mul u) h)
 
-quotient-round : (a b : ℕ) → a ≤ 2 ^ 53 → b ≤ 2 ^ 53 → 1 ≤ b → quotient a b ≡ round binary64 false a b
+turned-whole : (n : ℕ) → n ≤ 2 ^ 53 → HasValue (turned n) false n 1
 unfolding ofInt
-quotient-round a b h k o =
-    div-at (round binary64 false a 1) (round binary64 false b 1) a b (round-whole binary64 false a h) (round-whole binary64 false b k) o
+turned-whole n h = round-whole binary64 false n h
+
+quotient-round : (a b : ℕ) → a ≤ 2 ^ 53 → b ≤ 2 ^ 53 → 1 ≤ b → quotient a b ≡ round binary64 false a b
+quotient-round a b h k o = div-at (turned a) (turned b) a b (turned-whole a h) (turned-whole b k) o
+
+-- the bounds of counts that an accepted log gives
+pub bounds : (c : Counts) → isCounts c ≡ true → Sound c
+unfolding isCounts
+bounds c e = sound c (and-eq-true-iff (isChannel (c .channel)) (isSound c) .0 e .1)
+
+-- WHAT IS DIVIDED TURNS INTO BINARY64 WITHOUT LOSS
+pub without-loss : (counts : Counts) → isCounts counts ≡ true → WithoutLoss counts
+without-loss counts e =
+    let s = bounds counts e in
+    record {
+      bits = turned-whole (counts .bits) (omega (arith, s .few, s .each, s .most));
+      read = turned-whole (counts .read) (omega (arith, s .few, s .each));
+      missing = turned-whole (counts .missing) (omega (arith, s .few, s .each));
+      slots = turned-whole (counts .slots) (omega (arith, s .few));
+    }
 
 -- 2 ^ -20 and 8
 least-value : HasValue (round binary64 false 1 (2 ^ 20)) false 1 (2 ^ 20)

@@ -10,15 +10,13 @@ use lib.Ieee.Fits.{nan-fits}
 use lib.Ieee.Exact.{HasValue}
 use lib.Ieee.Positive.{num, den}
 use borrow.Author.Tests.{eqb-true, ne-eqb, eq-eqb}
-use Rattle.log.proofs.Sound.{sound}
 use Rattle.log.specs.declared.Counts.{Counts}
-use Rattle.log.specs.Log.{isCounts, isSound}
-use Rattle.band.specs.Band.{isChannel}
+use Rattle.log.specs.Log.{isCounts}
 use Rattle.summary.specs.declared.Summary.{Summary}
 use Rattle.summary.specs.Summary.{share, summaryOf}
 use Rattle.summary.specs.Export.{sameBits, isSummary}
 use Rattle.summary.specs.Building.{Measured}
-use Rattle.summary.proofs.Quotient.{measured-share}
+use Rattle.summary.proofs.Quotient.{bounds, measured-share}
 
 clash : true ≡ false → ⊥
 clash e = let z : _≡_ {A = ℕ} 0 1 = cc in omega arith
@@ -63,15 +61,13 @@ nan-bits x y e m =
 
 -- the numbers of a summary
 mean-measured : (c : Counts) → isCounts c ≡ true → Measured (share (c .bits) (c .read))
-unfolding isCounts
 mean-measured c e =
-    let s = sound c (and-eq-true-iff (isChannel (c .channel)) (isSound c) .0 e .1) in
+    let s = bounds c e in
     measured-share (c .bits) (c .read) (omega (arith, s .few, s .each)) (omega (arith, s .most))
 
 missing-measured : (c : Counts) → isCounts c ≡ true → Measured (share (c .missing) (c .slots))
-unfolding isCounts
 missing-measured c e =
-    let s = sound c (and-eq-true-iff (isChannel (c .channel)) (isSound c) .0 e .1) in
+    let s = bounds c e in
     measured-share (c .missing) (c .slots) (s .few) (omega (arith, s .each))
 
 beq-true : (s t : Bool) → Bool·beq s t ≡ true → s ≡ t

@@ -4,6 +4,7 @@ use mathlib.Core.Bool.{false, cond, not}
 use lib.Dec.{eqb}
 use lib.IntN.{pos}
 use lib.Ieee.{Float, binary64, ofInt, ofBits, div}
+use lib.Ieee.Exact.{HasValue}
 use Rattle.answers.specs.Numbers.{Paper, accepted, refused, paper}
 use Rattle.answers.specs.Rules.{unless}
 use Rattle.log.specs.declared.Counts.{Counts}
@@ -15,9 +16,13 @@ use Rattle.summary.specs.declared.Summarised.{Summarised}
 abbrev pub positiveZero : Float
 positiveZero = ofBits binary64 0
 
+-- a whole number turned into binary64
+abbrev pub turned : ℕ → Float
+turned n = ofInt binary64 (pos n)
+
 -- one division of two whole numbers turned into binary64
 abbrev pub quotient : ℕ → ℕ → Float
-quotient a b = div binary64 (ofInt binary64 (pos a)) (ofInt binary64 (pos b))
+quotient a b = div binary64 (turned a) (turned b)
 
 -- with a clear flag the number is positive zero
 abbrev pub share : ℕ → ℕ → Float
@@ -32,6 +37,13 @@ summaryOf counts =
       «missing_exists» = not (eqb (counts .slots) 0);
       missing = share (counts .missing) (counts .slots);
     }
+
+-- without loss: each number that is divided is, turned into binary64, still that number
+pub record WithoutLoss (counts : Counts) : Type 0 where
+  pub bits : HasValue (turned (counts .bits)) false (counts .bits) 1
+  pub read : HasValue (turned (counts .read)) false (counts .read) 1
+  pub missing : HasValue (turned (counts .missing)) false (counts .missing) 1
+  pub slots : HasValue (turned (counts .slots)) false (counts .slots) 1
 
 -- both flags clear
 abbrev pub noSummary : Summary
