@@ -12,7 +12,7 @@ use Rattle.log.specs.Log.{last}
 use Rattle.summary.specs.declared.Summary.{Summary}
 use Rattle.summary.specs.Export.{cell}
 
--- what stands before the point, or all where there is none
+-- what stands before the point (46), or all where there is none
 unfoldable pub wholeIn : List ℕ → List ℕ
 wholeIn text = take (indexOf 46 text) text
 
@@ -25,14 +25,14 @@ unfoldable pub numberFrom : ℕ → List ℕ → ℕ
 numberFrom before [] = before
 numberFrom before (b ∷ digits) = numberFrom (before * 10 + (b - 48)) digits
 
--- A text denotes `digitsIn` / 10 ^ `placesIn`: the number that all its digits spell, and how many of them stand after the point.
+-- A text denotes `digitsIn` / 10 ^ `placesIn`: the number that all its digits spell, and how many of them stand after the point
 unfoldable pub digitsIn : List ℕ → ℕ
 digitsIn text = numberFrom 0 (wholeIn text ++ decimalsIn text)
 
 unfoldable pub placesIn : List ℕ → ℕ
 placesIn text = length (decimalsIn text)
 
--- `0` to `9`, and nothing else
+-- `0` (48) to `9` (57), and nothing else
 unfoldable pub isDigits : List ℕ → Bool
 isDigits [] = true
 isDigits (b ∷ digits) = leb 48 b && leb b 57 && isDigits digits
@@ -45,7 +45,7 @@ isWhole digits = isDigits digits && (eqb (length digits) 1 || leb 49 (getD digit
 unfoldable pub isFraction : List ℕ → Bool
 isFraction digits = isDigits digits && leb 49 (last digits)
 
--- a whole number, or one with a point and decimals after it
+-- a whole number alone, or one with a point and decimals after it; no sign and no exponent
 unfoldable pub isDecimalText : List ℕ → Bool
 isDecimalText text = isWhole text || (isWhole (wholeIn text) && isFraction (decimalsIn text))
 
