@@ -1,4 +1,4 @@
--- No two refusals share a number, so what the paper says of an answer determines it. Assumes nothing.
+-- No two outcomes of `number` meet its promise, and no two refusals share a number, so what the paper says of an answer determines it. Assumes nothing.
 use mathlib.Core.Path.{_≡_, refl, sym, ap, _∙_}
 use mathlib.Core.List.{[], _∷_}
 use Prim.Native.Nat.{ℕ}
@@ -9,6 +9,10 @@ use Rattle.answers.specs.declared.Refusal.the-variants.{WrongLength, NoC
 use Rattle.answers.specs.declared.Answer.{Answer}
 use Rattle.answers.specs.declared.Answer.the-variants.{Accepted, Refused}
 use Rattle.answers.specs.Numbers.{numberOf, paper}
+
+-- `number`
+pub number-once : (refusal : Refusal) (r s : ℕ) → r ≡ numberOf refusal → s ≡ numberOf refusal → r ≡ s
+number-once refusal r s p q = p ∙ sym q
 
 -- the refusal of a number of the table; no number 0 is given
 refusalOf : ℕ → Refusal
@@ -35,12 +39,12 @@ undone NotThisGroup = refl
 undone TooLong = refl
 
 -- NO TWO REFUSALS SHARE A NUMBER
-pub number-once : (a b : Refusal) → numberOf a ≡ numberOf b → a ≡ b
-number-once a b e = sym (undone a) ∙ ap refusalOf e ∙ undone b
+pub refusal-once : (a b : Refusal) → numberOf a ≡ numberOf b → a ≡ b
+refusal-once a b e = sym (undone a) ∙ ap refusalOf e ∙ undone b
 
 -- THE PAPER DETERMINES THE ANSWER
 pub paper-once : (a b : Answer) → paper a ≡ paper b → a ≡ b
 paper-once Accepted Accepted e = refl
 paper-once Accepted (Refused b) e = let z : _≡_ {A = ℕ} 0 1 = cc in absurd (omega arith)
 paper-once (Refused a) Accepted e = let z : _≡_ {A = ℕ} 0 1 = cc in absurd (omega arith)
-paper-once (Refused a) (Refused b) e = let n : numberOf a ≡ numberOf b = cc in ap Refused (number-once a b n)
+paper-once (Refused a) (Refused b) e = let n : numberOf a ≡ numberOf b = cc in ap Refused (refusal-once a b n)

@@ -1,4 +1,4 @@
--- No two outcomes meet a promise of this crate. Assumes nothing.
+-- NO TWO OUTCOMES MEET A PROMISE of this crate's public functions: what they return, and the output, where it holds bytes. Assumes nothing.
 use mathlib.Core.Path.{_≡_, sym, ap, _∙_, subst}
 use mathlib.Core.Bool.{Bool}
 use mathlib.Core.List.{List}
@@ -6,84 +6,77 @@ use mathlib.Core.Logic.{inl, inr}
 use Prim.Native.Nat.{ℕ}
 use native.Mathlib.Omega.{arith}
 use lib.ListN.{length, take}
+use Rattle.answers.specs.Numbers.{paper}
 use Rattle.answers.specs.declared.Answer.{Answer}
 use Rattle.answers.proofs.Determined.{paper-once}
 use Rattle.code.specs.Code.{distance}
 use Rattle.code.proofs.Majority.{only-word}
+use Rattle.block.specs.declared.Corrected.{Corrected}
 use Rattle.block.specs.Bytes.{AreBytes, rowOf}
 use Rattle.block.specs.Corrector.{Near, WrongLength, NoCodeWord, Corrects}
 use Rattle.block.specs.Blocks.{CheckRight, Reads, Writes}
 use Rattle.block.proofs.Bytes.{row-once, length-rowOf}
 
--- an outcome: the output's bytes, the answer and the count
-pub record Outcome : Type 0 where
-  pub bytes : List ℕ
-  pub answer : Answer
-  pub count : ℕ
-
-pub Same : Outcome → Outcome → Type 0
-Same a b = (a .bytes ≡ b .bytes) × (a .answer ≡ b .answer) × (a .count ≡ b .count)
+-- what is returned is an answer and a count
+returned : (r s : Corrected) → paper (r .answer) ≡ paper (s .answer) → r .count ≡ s .count → r ≡ s
+returned r s p count = let answer = paper-once (r .answer) (s .answer) p in λ i. record { answer = answer i; count = count i }
 
 -- what the corrector and the block reader refuse alike, and what they found
-module _ (room : ℕ) (received before : List ℕ) (a b : Outcome) where
-  same-length : WrongLength room received before (a .bytes) (a .answer) (a .count) → WrongLength room received before (b .bytes) (b .answer) (b .count) → Same a b
-  unfolding Same
-  same-length u v = (u .same ∙ sym (v .same), paper-once _ _ (u .answers ∙ sym (v .answers)), u .counts ∙ sym (v .counts))
+module _ (room : ℕ) (received before : List ℕ) (r s : Corrected) (x y : List ℕ) where
+  same-length : WrongLength room received before x (r .answer) (r .count) → WrongLength room received before y (s .answer) (s .count) → (r ≡ s) × (x ≡ y)
+  same-length u v = (returned r s (u .answers ∙ sym (v .answers)) (u .counts ∙ sym (v .counts)), u .same ∙ sym (v .same))
 
-  same-none : NoCodeWord room received before (a .bytes) (a .answer) (a .count) → NoCodeWord room received before (b .bytes) (b .answer) (b .count) → Same a b
-  unfolding Same
-  same-none u v = (u .same ∙ sym (v .same), paper-once _ _ (u .answers ∙ sym (v .answers)), u .counts ∙ sym (v .counts))
+  same-none : NoCodeWord room received before x (r .answer) (r .count) → NoCodeWord room received before y (s .answer) (s .count) → (r ≡ s) × (x ≡ y)
+  same-none u v = (returned r s (u .answers ∙ sym (v .answers)) (u .counts ∙ sym (v .counts)), u .same ∙ sym (v .same))
 
-  found-once : {u v : List Bool} → length received ≡ 34 → Near (rowOf received) u (a .count) → Near (rowOf received) v (b .count) → (u ≡ v) × (a .count ≡ b .count)
-  found-once {u} {v} l m n =
-      let word : u ≡ v = only-word (rowOf received) u v (omega (arith, length-rowOf received)) (m .code) (n .code) (m .near) (n .near) in
-      (word, m .counts ∙ ap (distance (rowOf received)) word ∙ sym (n .counts))
+found-once : (received : List ℕ) {u v : List Bool} {m n : ℕ} → length received ≡ 34 → Near (rowOf received) u m → Near (rowOf received) v n → (u ≡ v) × (m ≡ n)
+found-once received {u} {v} l p q =
+    let word : u ≡ v = only-word (rowOf received) u v (omega (arith, length-rowOf received)) (p .code) (q .code) (p .near) (q .near) in
+    (word, p .counts ∙ ap (distance (rowOf received)) word ∙ sym (q .counts))
 
-module _ (received before : List ℕ) (a b : Outcome) (ba : AreBytes (a .bytes)) (bb : AreBytes (b .bytes)) where
-  -- THE CORRECTOR'S PROMISE DETERMINES THE ANSWER, THE COUNT AND EVERY BYTE
-  pub corrects-once : Corrects received before (a .bytes) (a .answer) (a .count) → Corrects received before (b .bytes) (b .answer) (b .count) → Same a b
-  unfolding Same
-  corrects-once (inl u) (inl v) = same-length 34 received before a b u v
-  corrects-once (inl u) (inr (inl v)) = absurd (u .wrong (v .sized))
-  corrects-once (inl u) (inr (inr v)) = absurd (u .wrong (v .sized))
-  corrects-once (inr (inl u)) (inl v) = absurd (v .wrong (u .sized))
-  corrects-once (inr (inl u)) (inr (inl v)) = same-none 34 received before a b u v
-  corrects-once (inr (inl u)) (inr (inr v)) = absurd (u .none (v .word) (v .found .code) (v .found .near))
-  corrects-once (inr (inr u)) (inl v) = absurd (v .wrong (u .sized))
-  corrects-once (inr (inr u)) (inr (inl v)) = absurd (v .none (u .word) (u .found .code) (u .found .near))
-  corrects-once (inr (inr u)) (inr (inr v)) =
-      let once = found-once 34 received before a b (u .sized .input) (u .found) (v .found) in
-      (row-once (a .bytes) (b .bytes) ba bb (u .long ∙ sym (v .long)) (u .written ∙ once .0 ∙ sym (v .written)), paper-once _ _ (u .answers ∙ sym (v .answers)), once .1)
+module _ (received before : List ℕ) (r s : Corrected) (x y : List ℕ) (bx : AreBytes x) (by : AreBytes y) where
+  -- `correct`
+  pub correct-once : Corrects received before x (r .answer) (r .count) → Corrects received before y (s .answer) (s .count) → (r ≡ s) × (x ≡ y)
+  correct-once (inl u) (inl v) = same-length 34 received before r s x y u v
+  correct-once (inl u) (inr (inl v)) = absurd (u .wrong (v .sized))
+  correct-once (inl u) (inr (inr v)) = absurd (u .wrong (v .sized))
+  correct-once (inr (inl u)) (inl v) = absurd (v .wrong (u .sized))
+  correct-once (inr (inl u)) (inr (inl v)) = same-none 34 received before r s x y u v
+  correct-once (inr (inl u)) (inr (inr v)) = absurd (u .none (v .word) (v .found .code) (v .found .near))
+  correct-once (inr (inr u)) (inl v) = absurd (v .wrong (u .sized))
+  correct-once (inr (inr u)) (inr (inl v)) = absurd (v .none (u .word) (u .found .code) (u .found .near))
+  correct-once (inr (inr u)) (inr (inr v)) =
+      let once = found-once received (u .sized .input) (u .found) (v .found) in
+      (returned r s (u .answers ∙ sym (v .answers)) (once .1), row-once x y bx by (u .long ∙ sym (v .long)) (u .written ∙ once .0 ∙ sym (v .written)))
 
-  -- AND SO DOES THE BLOCK READER'S
-  pub reads-once : Reads received before (a .bytes) (a .answer) (a .count) → Reads received before (b .bytes) (b .answer) (b .count) → Same a b
-  unfolding Same
-  reads-once (inl u) (inl v) = same-length 22 received before a b u v
-  reads-once (inl u) (inr (inl v)) = absurd (u .wrong (v .sized))
-  reads-once (inl u) (inr (inr (inl v))) = absurd (u .wrong (v .sized))
-  reads-once (inl u) (inr (inr (inr v))) = absurd (u .wrong (v .sized))
-  reads-once (inr (inl u)) (inl v) = absurd (v .wrong (u .sized))
-  reads-once (inr (inl u)) (inr (inl v)) = same-none 22 received before a b u v
-  reads-once (inr (inl u)) (inr (inr (inl v))) = absurd (u .none (v .word) (v .found .code) (v .found .near))
-  reads-once (inr (inl u)) (inr (inr (inr v))) = absurd (u .none (v .word) (v .found .code) (v .found .near))
-  reads-once (inr (inr (inl u))) (inl v) = absurd (v .wrong (u .sized))
-  reads-once (inr (inr (inl u))) (inr (inl v)) = absurd (v .none (u .word) (u .found .code) (u .found .near))
-  reads-once (inr (inr (inl u))) (inr (inr (inl v))) =
-      (u .same ∙ sym (v .same), paper-once _ _ (u .answers ∙ sym (v .answers)), found-once 22 received before a b (u .sized .input) (u .found) (v .found) .1)
-  reads-once (inr (inr (inl u))) (inr (inr (inr v))) =
-      absurd (u .wrong (subst CheckRight (sym (found-once 22 received before a b (u .sized .input) (u .found) (v .found) .0)) (v .right)))
-  reads-once (inr (inr (inr u))) (inl v) = absurd (v .wrong (u .sized))
-  reads-once (inr (inr (inr u))) (inr (inl v)) = absurd (v .none (u .word) (u .found .code) (u .found .near))
-  reads-once (inr (inr (inr u))) (inr (inr (inl v))) =
-      absurd (v .wrong (subst CheckRight (found-once 22 received before a b (u .sized .input) (u .found) (v .found) .0) (u .right)))
-  reads-once (inr (inr (inr u))) (inr (inr (inr v))) =
-      let once = found-once 22 received before a b (u .sized .input) (u .found) (v .found) in
-      (row-once (a .bytes) (b .bytes) ba bb (u .long ∙ sym (v .long)) (u .given ∙ ap (take 176) (once .0) ∙ sym (v .given)), paper-once _ _ (u .answers ∙ sym (v .answers)), once .1)
+  -- `read_block`
+  pub read-block-once : Reads received before x (r .answer) (r .count) → Reads received before y (s .answer) (s .count) → (r ≡ s) × (x ≡ y)
+  read-block-once (inl u) (inl v) = same-length 22 received before r s x y u v
+  read-block-once (inl u) (inr (inl v)) = absurd (u .wrong (v .sized))
+  read-block-once (inl u) (inr (inr (inl v))) = absurd (u .wrong (v .sized))
+  read-block-once (inl u) (inr (inr (inr v))) = absurd (u .wrong (v .sized))
+  read-block-once (inr (inl u)) (inl v) = absurd (v .wrong (u .sized))
+  read-block-once (inr (inl u)) (inr (inl v)) = same-none 22 received before r s x y u v
+  read-block-once (inr (inl u)) (inr (inr (inl v))) = absurd (u .none (v .word) (v .found .code) (v .found .near))
+  read-block-once (inr (inl u)) (inr (inr (inr v))) = absurd (u .none (v .word) (v .found .code) (v .found .near))
+  read-block-once (inr (inr (inl u))) (inl v) = absurd (v .wrong (u .sized))
+  read-block-once (inr (inr (inl u))) (inr (inl v)) = absurd (v .none (u .word) (u .found .code) (u .found .near))
+  read-block-once (inr (inr (inl u))) (inr (inr (inl v))) =
+      (returned r s (u .answers ∙ sym (v .answers)) (found-once received (u .sized .input) (u .found) (v .found) .1), u .same ∙ sym (v .same))
+  read-block-once (inr (inr (inl u))) (inr (inr (inr v))) =
+      absurd (u .wrong (subst CheckRight (sym (found-once received (u .sized .input) (u .found) (v .found) .0)) (v .right)))
+  read-block-once (inr (inr (inr u))) (inl v) = absurd (v .wrong (u .sized))
+  read-block-once (inr (inr (inr u))) (inr (inl v)) = absurd (v .none (u .word) (u .found .code) (u .found .near))
+  read-block-once (inr (inr (inr u))) (inr (inr (inl v))) =
+      absurd (v .wrong (subst CheckRight (found-once received (u .sized .input) (u .found) (v .found) .0) (u .right)))
+  read-block-once (inr (inr (inr u))) (inr (inr (inr v))) =
+      let once = found-once received (u .sized .input) (u .found) (v .found) in
+      (returned r s (u .answers ∙ sym (v .answers)) (once .1), row-once x y bx by (u .long ∙ sym (v .long)) (u .given ∙ ap (take 176) (once .0) ∙ sym (v .given)))
 
--- THE BLOCK WRITER'S PROMISE DETERMINES THE ANSWER AND EVERY BYTE
-pub writes-once : (information before xs ys : List ℕ) (a b : Answer) → AreBytes xs → AreBytes ys → Writes information before xs a → Writes information before ys b → (xs ≡ ys) × (a ≡ b)
-writes-once information before xs ys a b bx by (inl u) (inl v) = (u .same ∙ sym (v .same), paper-once a b (u .answers ∙ sym (v .answers)))
-writes-once information before xs ys a b bx by (inl u) (inr v) = absurd (u .wrong (v .sized))
-writes-once information before xs ys a b bx by (inr u) (inl v) = absurd (v .wrong (u .sized))
-writes-once information before xs ys a b bx by (inr u) (inr v) =
-    (row-once xs ys bx by (u .long ∙ sym (v .long)) (u .written ∙ sym (v .written)), paper-once a b (u .answers ∙ sym (v .answers)))
+-- `write_block`
+pub write-block-once : (information before : List ℕ) (r s : Answer) (x y : List ℕ) → AreBytes x → AreBytes y → Writes information before x r → Writes information before y s → (r ≡ s) × (x ≡ y)
+write-block-once information before r s x y bx by (inl u) (inl v) = (paper-once r s (u .answers ∙ sym (v .answers)), u .same ∙ sym (v .same))
+write-block-once information before r s x y bx by (inl u) (inr v) = absurd (u .wrong (v .sized))
+write-block-once information before r s x y bx by (inr u) (inl v) = absurd (v .wrong (u .sized))
+write-block-once information before r s x y bx by (inr u) (inr v) =
+    (paper-once r s (u .answers ∙ sym (v .answers)), row-once x y bx by (u .long ∙ sym (v .long)) (u .written ∙ sym (v .written)))

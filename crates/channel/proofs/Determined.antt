@@ -4,7 +4,7 @@ use mathlib.Core.Path.{_≡_, refl, sym, ap, _∙_}
 use mathlib.Core.List.{List}
 use native.Mathlib.Omega.{arith}
 use Rattle.answers.specs.Numbers.{numberOf}
-use Rattle.answers.proofs.Determined.{number-once}
+use Rattle.answers.proofs.Determined.{refusal-once}
 use Rattle.channel.specs.Answers.{outcome, Left, paper}
 use Rattle.channel.specs.State.{fresh, stepOf}
 use Rattle.channel.specs.declared.Channel.{Channel}
@@ -25,7 +25,7 @@ outcome-once (Message h) (Message k) e = cc
 outcome-once (Message h) (Refused r) e = let z : _≡_ {A = ℕ} 0 1 = cc in absurd (omega arith)
 outcome-once (Refused r) Taken e = let z : _≡_ {A = ℕ} 0 1 = cc in absurd (omega arith)
 outcome-once (Refused r) (Message h) e = let z : _≡_ {A = ℕ} 0 1 = cc in absurd (omega arith)
-outcome-once (Refused r) (Refused s) e = let n : numberOf r ≡ numberOf s = cc in ap Refused (number-once r s n)
+outcome-once (Refused r) (Refused s) e = let n : numberOf r ≡ numberOf s = cc in ap Refused (refusal-once r s n)
 
 -- `Channel::step`
 pub step-once : (c : Channel) (information : List ℕ) (r s : Stepped) → paper r ≡ stepOf c information → paper s ≡ stepOf c information → r ≡ s

@@ -3,3 +3,4 @@ pub mod Computed
 pub mod Orthogonal
 pub mod Majority
 pub mod Accepted
+pub mod Determined

@@ -4,7 +4,7 @@ use mathlib.Core.Path.{_≡_, refl, sym, ap, _∙_}
 use mathlib.Core.List.{List}
 use native.Mathlib.Omega.{arith}
 use Rattle.answers.specs.Numbers.{numberOf, paper}
-use Rattle.answers.proofs.Determined.{number-once, paper-once}
+use Rattle.answers.proofs.Determined.{refusal-once, paper-once}
 use Rattle.channel.specs.declared.Fields.{Fields}
 use Rattle.group.specs.Answers.{outcome, Left, left, made}
 use Rattle.group.specs.Answers as answers
@@ -32,7 +32,7 @@ outcome-once (Whole n) (Whole k) e = cc
 outcome-once (Whole n) (Refused r) e = let z : _≡_ {A = ℕ} 0 1 = cc in absurd (omega arith)
 outcome-once (Refused r) Taken e = let z : _≡_ {A = ℕ} 0 1 = cc in absurd (omega arith)
 outcome-once (Refused r) (Whole n) e = let z : _≡_ {A = ℕ} 0 1 = cc in absurd (omega arith)
-outcome-once (Refused r) (Refused s) e = let n : numberOf r ≡ numberOf s = cc in ap Refused (number-once r s n)
+outcome-once (Refused r) (Refused s) e = let n : numberOf r ≡ numberOf s = cc in ap Refused (refusal-once r s n)
 
 -- `Group::join`: what it returns, and the buffer
 pub join-once : (g : Group) (m : Fields) (s buffer : List ℕ) (r t : Stepped) (x y : List ℕ) → left r x ≡ joinOf g m s buffer → left t y ≡ joinOf g m s buffer → (r ≡ t) × (x ≡ y)

@@ -1,8 +1,8 @@
--- The promise of `check` is an equation, so no two outcomes meet it. Assumes nothing.
+-- NO TWO OUTCOMES MEET THE PROMISE of this crate's public function. Assumes nothing.
 use Prim.Native.Nat.{ℕ}
-use mathlib.Core.Path.{_≡_}
-use Rattle.gf2.proofs.Determined.{equation-once}
+use mathlib.Core.Path.{_≡_, sym, _∙_}
 use Rattle.header.specs.Check.{check}
 
-pub check-once : (before r s : ℕ) → r ≡ check 64 before → s ≡ check 64 before → r ≡ s
-check-once before r s = equation-once
+-- `check`
+pub check-once : (fields r s : ℕ) → r ≡ check 64 fields → s ≡ check 64 fields → r ≡ s
+check-once fields r s p q = p ∙ sym q

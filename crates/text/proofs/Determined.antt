@@ -1,16 +1,42 @@
--- Every contract of this crate gives the result by an equation. `read_bytes` also leaves an output: no two outcomes meet
--- its contract. Assumes nothing.
-use Prim.Native.Nat.{ℕ}
+-- NO TWO OUTCOMES MEET A PROMISE of this crate's public functions. Assumes nothing.
+use Prim.Native.Nat.{ℕ, _/_, _%_}
 use mathlib.Core.Path.{_≡_, sym, ap, _∙_}
+use mathlib.Core.Bool.{Bool}
 use mathlib.Core.List.{List}
 use lib.ListN.{length}
 use Rattle.text.specs.declared.hexadecimal.Bytes.{Bytes}
-use Rattle.text.specs.Hexadecimal.{readOf, leftOf}
+use Rattle.text.specs.declared.numbers.Number.{Number}
+use Rattle.text.specs.Fields.{sameAs, tabs, fieldOf}
+use Rattle.text.specs.Hexadecimal.{readOf, leftOf, spelled}
+use Rattle.text.specs.Numbers.{numberOf}
 
--- WHAT IS READ, AND THE OUTPUT, ARE DETERMINED
-pub read-once : (digits output : List ℕ) (a b : Bytes) (left right : List ℕ) → a ≡ readOf digits (length output)
-    → left ≡ leftOf a digits output → b ≡ readOf digits (length output) → right ≡ leftOf b digits output
-    → (a ≡ b) × (left ≡ right)
-read-once digits output a b left right p q r s =
-    let e = p ∙ sym r in
-    (e, q ∙ ap (λ (x : Bytes). leftOf x digits output) e ∙ sym s)
+-- `same`
+pub same-once : (a b : List ℕ) (r s : Bool) → r ≡ sameAs a b → s ≡ sameAs a b → r ≡ s
+same-once a b r s p q = p ∙ sym q
+
+-- `arguments`
+pub arguments-once : (line : List ℕ) (r s : ℕ) → r ≡ tabs line → s ≡ tabs line → r ≡ s
+arguments-once line r s p q = p ∙ sym q
+
+-- `field`: the bytes of the slice that it returns
+pub field-once : (line : List ℕ) (index : ℕ) (r s : List ℕ) → r ≡ fieldOf index line → s ≡ fieldOf index line → r ≡ s
+field-once line index r s p q = p ∙ sym q
+
+-- `read_bytes`: what it returns, and the output
+pub read-bytes-once : (digits output : List ℕ) (r s : Bytes) (x y : List ℕ) → r ≡ readOf digits (length output) → x ≡ leftOf r digits output
+    → s ≡ readOf digits (length output) → y ≡ leftOf s digits output → (r ≡ s) × (x ≡ y)
+read-bytes-once digits output r s x y p left q right =
+    let e = p ∙ sym q in
+    (e, left ∙ ap (λ (b : Bytes). leftOf b digits output) e ∙ sym right)
+
+-- `first_digit`
+pub first-digit-once : (byte r s : ℕ) → r ≡ spelled (byte / 16) → s ≡ spelled (byte / 16) → r ≡ s
+first-digit-once byte r s p q = p ∙ sym q
+
+-- `second_digit`
+pub second-digit-once : (byte r s : ℕ) → r ≡ spelled (byte % 16) → s ≡ spelled (byte % 16) → r ≡ s
+second-digit-once byte r s p q = p ∙ sym q
+
+-- `read_number`
+pub read-number-once : (digits : List ℕ) (most : ℕ) (r s : Number) → r ≡ numberOf most digits → s ≡ numberOf most digits → r ≡ s
+read-number-once digits most r s p q = p ∙ sym q
