@@ -1,5 +1,5 @@
--- Document 01, "The block": what the corrector answers, over all code words. Each record is one outcome: when it is given, the answer as the
--- paper has it, the count, and every byte of the output. Assumes nothing.
+-- Document 01, "The block": what the corrector answers, over all code words. `WrongLength`, `NoCodeWord` and `Word` are its outcomes: when each is
+-- given, the answer as the paper has it, the count, and every byte of the output. Assumes nothing.
 use mathlib.Core.Path.{_≡_}
 use mathlib.Core.Bool.{Bool}
 use mathlib.Core.List.{List}
