@@ -31,7 +31,7 @@ module _ (row word : List Bool) (code : Bool) (l : length row ≡ 272) (voting :
   no-word n e f = record {
     met = λ t. absurd (false≢true t);
     missed = λ _ other w d.
-        let a = accepts row l .1 (record { word = other; code = w; near = d }) in
+        let a = accepts row l .1 (other, w, d) in
         let near : distance row word ≤ 8 = subst (λ (x : List Bool). distance row x ≤ 8) (sym voting) (a .1) in
         let close : n ≤ 8 = omega arith in
         false≢true (sym f ∙ rw (tested, voting, a .0, le-leb n 8 close));

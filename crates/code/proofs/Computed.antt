@@ -10,13 +10,8 @@ use lib.Ieee.Fits.{and-l, and-r}
 use lib.ListN.{length}
 use Rattle.gf2.proofs.Tested.{tested}
 use Rattle.code.specs.Code.{generator}
-use Rattle.code.specs.Vote.{residues, bitAt, parityOver, sumOver, checkPositions}
-use Rattle.code.proofs.Sums.{Below, occurs, seventeenOnce}
-
--- all differences of an entry of one list and one of another, modulo 273
-abbrev pub differences : List ℕ → List ℕ → List ℕ
-differences ss [] = []
-differences ss (k ∷ ks) = map (λ l. (273 + l - k) % 273) ss ++ differences ss ks
+use Rattle.code.specs.Vote.{residues, bitAt, parityOver, sumOver, differences, occurs, seventeenOnce, checkPositions}
+use Rattle.code.proofs.Sums.{Below}
 
 abbrev differenceSet : List ℕ → ℕ → Bool
 differenceSet ss v = eqb (occurs v (differences ss ss)) (seventeenOnce v)

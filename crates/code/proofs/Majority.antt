@@ -14,9 +14,9 @@ use Rattle.gf2.proofs.Bits.{⊕-false, ⊕-twice}
 use Rattle.gf2.proofs.Lists.{length-rowFrom, getD-rowFrom}
 use Rattle.gf2.proofs.Remainders.{multiple-length}
 use Rattle.code.specs.Code.{generator, CodeWord, distance}
-use Rattle.code.specs.Vote.{bitAt, parityOver, sumOver, checkPositions, paritySum, paritySums, oddSums, voted}
+use Rattle.code.specs.Vote.{differences, bitAt, parityOver, sumOver, checkPositions, paritySum, paritySums, oddSums, voted}
 use Rattle.code.proofs.Sums.{Below, In, in-below, sumTo, sumTo-turn, sumTo-distance, sumTo-le, sum-differences, sumOver-append, sumOver-map, sumOver-le, sumOver-cong, sumOver-add, sumOver-in, parity-sum, parityOver-⊕}
-use Rattle.code.proofs.Computed.{differences, difference-once, positions-below, positions-twice, generator-length}
+use Rattle.code.proofs.Computed.{difference-once, positions-below, positions-twice, generator-length}
 use Rattle.code.proofs.Orthogonal.{code-even}
 
 -- differences are residues

@@ -11,7 +11,7 @@ use lib.ListN.{length}
 use Rattle.gf2.specs.Poly.{bit, _⊕_}
 use Rattle.gf2.proofs.Bits.{⊕-swap}
 use Rattle.code.specs.Code.{distance}
-use Rattle.code.specs.Vote.{bitAt, parityOver, sumOver}
+use Rattle.code.specs.Vote.{bitAt, parityOver, sumOver, occurs, seventeenOnce}
 
 -- f 0 + .. + f (n - 1)
 unfoldable pub sumTo : ℕ → (ℕ → ℕ) → ℕ
@@ -104,10 +104,6 @@ pub sumOver-map : (f g : ℕ → ℕ) (xs : List ℕ) → sumOver f (map g xs) �
 sumOver-map f g [] = refl
 sumOver-map f g (x ∷ xs) = omega (arith, sumOver-map f g xs)
 
--- how often v is an entry
-abbrev pub occurs : ℕ → List ℕ → ℕ
-occurs v xs = sumOver (λ x. bit (eqb v x)) xs
-
 picked : (n : ℕ) (f : ℕ → ℕ) (x : ℕ) → x < n → sumTo n (λ v. bit (eqb v x) * f v) ≡ f x
 unfolding sumTo
 picked zero f x h = absurd (not-suc-le-zero h)
@@ -132,10 +128,6 @@ by-value n f (x ∷ xs) h =
     )
 
 -- where 0 occurs seventeen times and each other number once
-abbrev pub seventeenOnce : ℕ → ℕ
-seventeenOnce zero = 17
-seventeenOnce (suc v) = 1
-
 pub sum-differences : (n : ℕ) (f : ℕ → ℕ) (xs : List ℕ) → Below (suc n) xs → ((v : ℕ) → v < suc n → occurs v xs ≡ seventeenOnce v)
     → sumOver f xs ≡ 16 * f 0 + sumTo (suc n) f
 unfolding sumTo

@@ -1,9 +1,9 @@
 -- Document 01, "The block": the corrector votes, 17 parity sums meet in each position. Of this file a public promise cites
 -- `checkPositions` alone, the table that `block` votes with; the rest says how the word is found. Assumes nothing.
 use mathlib.Core.Bool.{Bool, false}
-use mathlib.Core.List.{List, [], _∷_, map}
-use Prim.Native.Nat.{ℕ, _+_, _-_, _*_, _%_}
-use lib.Dec.{leb}
+use mathlib.Core.List.{List, [], _∷_, _++_, map}
+use Prim.Native.Nat.{ℕ, zero, suc, _+_, _-_, _*_, _%_}
+use lib.Dec.{eqb, leb}
 use lib.ListN.{length, getD}
 use Rattle.gf2.specs.Poly.{bit, _⊕_, rowFrom}
 
@@ -27,6 +27,20 @@ parityOver f (v ∷ vs) = f v ⊕ parityOver f vs
 abbrev pub sumOver : (ℕ → ℕ) → List ℕ → ℕ
 sumOver f [] = 0
 sumOver f (v ∷ vs) = f v + sumOver f vs
+
+-- the differences of all ordered pairs of entries, modulo 273
+abbrev pub differences : List ℕ → List ℕ → List ℕ
+differences ss [] = []
+differences ss (k ∷ ks) = map (λ l. (273 + l - k) % 273) ss ++ differences ss ks
+
+-- how often a number is an entry
+abbrev pub occurs : ℕ → List ℕ → ℕ
+occurs v xs = sumOver (λ x. bit (eqb v x)) xs
+
+-- of seventeen entries, each with itself gives 0; each nonzero residue is to be the difference of exactly one ordered pair
+abbrev pub seventeenOnce : ℕ → ℕ
+seventeenOnce zero = 17
+seventeenOnce (suc v) = 1
 
 -- the parity sum at shift t, of the seventeen positions t + s round the circle of 273
 unfoldable pub paritySum : List Bool → ℕ → Bool
