@@ -1,22 +1,40 @@
--- No two outcomes of a public function meet its promise; `start` and `is_counts` promise their result itself. Assumes nothing.
-use mathlib.Core.Path.{_≡_, ap}
+-- No two outcomes of a public function meet its promise. Assumes nothing.
+use Prim.Native.Nat.{ℕ}
+use mathlib.Core.Path.{_≡_, ap, sym, _∙_}
+use mathlib.Core.Bool.{Bool}
+use mathlib.Core.List.{List}
 use Rattle.answers.proofs.Determined.{paper-once}
+use Rattle.log.specs.declared.Counts.{Counts}
+use Rattle.log.specs.declared.Reader.{Reader}
 use Rattle.log.specs.declared.LogRead.{LogRead}
 use Rattle.log.specs.declared.Fed.{Fed}
-use Rattle.log.specs.Reader.{Told, told, ToldFed, toldFed}
+use Rattle.log.specs.Log.{isCounts}
+use Rattle.log.specs.Reader.{Told, told, ToldFed, toldFed, fresh, readOf, fedOf, endOf}
 
--- `read`
-pub read-once : (a b : LogRead) → told a ≡ told b → a ≡ b
-read-once a b e =
-    let p = paper-once (a .answer) (b .answer) (ap (λ (t : Told). t .answer) e) in
-    let q = ap (λ (t : Told). t .line) e in
-    let r = ap (λ (t : Told). t .counts) e in
-    λ i. record { answer = p i; line = q i; counts = r i }
+pub read-once : (log : List ℕ) (r s : LogRead) → told r ≡ readOf log → told s ≡ readOf log → r ≡ s
+read-once log r s d e =
+    let t = d ∙ sym e in
+    let p = paper-once (r .answer) (s .answer) (ap (λ (t : Told). t .answer) t) in
+    let q = ap (λ (t : Told). t .line) t in
+    let c = ap (λ (t : Told). t .counts) t in
+    λ i. record { answer = p i; line = q i; counts = c i }
 
--- `feed` and `end`
-pub fed-once : (a b : Fed) → toldFed a ≡ toldFed b → a ≡ b
-fed-once a b e =
-    let p = paper-once (a .answer) (b .answer) (ap (λ (t : ToldFed). t .answer) e) in
-    let q = ap (λ (t : ToldFed). t .line) e in
-    let r = ap (λ (t : ToldFed). t .reader) e in
-    λ i. record { answer = p i; line = q i; reader = r i }
+pub start-once : (r s : Reader) → r ≡ fresh → s ≡ fresh → r ≡ s
+start-once r s d e = d ∙ sym e
+
+-- what is told determines what a piece or the end gives
+told-once : (r s : Fed) → toldFed r ≡ toldFed s → r ≡ s
+told-once r s t =
+    let p = paper-once (r .answer) (s .answer) (ap (λ (t : ToldFed). t .answer) t) in
+    let q = ap (λ (t : ToldFed). t .line) t in
+    let n = ap (λ (t : ToldFed). t .reader) t in
+    λ i. record { answer = p i; line = q i; reader = n i }
+
+pub feed-once : (reader : Reader) (piece : List ℕ) (r s : Fed) → toldFed r ≡ fedOf reader piece → toldFed s ≡ fedOf reader piece → r ≡ s
+feed-once reader piece r s d e = told-once r s (d ∙ sym e)
+
+pub end-once : (reader : Reader) (r s : Fed) → toldFed r ≡ endOf reader → toldFed s ≡ endOf reader → r ≡ s
+end-once reader r s d e = told-once r s (d ∙ sym e)
+
+pub is-counts-once : (counts : Counts) (r s : Bool) → r ≡ isCounts counts → s ≡ isCounts counts → r ≡ s
+is-counts-once counts r s d e = d ∙ sym e
