@@ -1,6 +1,6 @@
 -- The counts that `isCounts` admits are those that some accepted log gives. Assumes nothing.
 use Prim.Native.Nat.{ℕ, suc, zero, _+_, _-_, _*_, _≤_}
-use mathlib.Core.Path.{_≡_, refl, ap, sym, _∙_}
+use mathlib.Core.Path.{_≡_, refl, ap, sym, _∙_, subst}
 use mathlib.Core.Bool.{true, and-eq-true-iff}
 use mathlib.Core.List.{List, [], _∷_, _++_}
 use native.Mathlib.Omega.{arith}
@@ -10,13 +10,16 @@ use borrow.Author.Tests.{leb-true, leb-false, le-leb, ne-eqb}
 use Rattle.answers.specs.Numbers.{accepted}
 use Rattle.band.specs.Band.{isChannel}
 use Rattle.log.specs.declared.Counts.{Counts}
+use Rattle.log.specs.declared.Reader.{Reader}
 use Rattle.log.specs.Log.{isOutcome, logText, allOutcomes, one, counted, countsFrom, tuned, isSound, isCounts}
-use Rattle.log.specs.Reader.{readOf}
+use Rattle.log.specs.Reader.{fresh, readOf, isReader}
 use Rattle.log.proofs.Lists.{by-cases}
-use Rattle.log.proofs.Sound.{Sound, sound, sound-is}
-use Rattle.log.proofs.Outcomes.{counted-read, counted-sound}
-use Rattle.log.proofs.Written.{counts-channel, counted-few, written-read}
-use Rattle.log.proofs.Accepted.{accepted-text}
+use Rattle.log.proofs.Sound.{Sound, sound}
+use Rattle.log.proofs.Outcomes.{counted-read, before-sound}
+use Rattle.log.proofs.Written.{counts-channel, all-snoc, written-run}
+use Rattle.log.proofs.Runs.{ruled, run-kept, fresh-kept}
+use Rattle.log.proofs.Beginnings.{good}
+use Rattle.log.proofs.Accepted.{written-read, accepted-text}
 
 same-counts : (a b : Counts) → a .channel ≡ b .channel → a .slots ≡ b .slots → a .read ≡ b .read → a .clean ≡ b .clean → a .bits ≡ b .bits
     → a .noword ≡ b .noword → a .check ≡ b .check → a .missing ≡ b .missing → a ≡ b
@@ -110,11 +113,6 @@ unfolding countsFrom
 counts-snoc [] o c = refl
 counts-snoc (x ∷ os) o c = counts-snoc os o (counted c x)
 
-all-snoc : (os : List ℕ) (o : ℕ) → allOutcomes os ≡ true → isOutcome o ≡ true → allOutcomes (os ++ (o ∷ [])) ≡ true
-unfolding allOutcomes
-all-snoc [] o h k = rw k
-all-snoc (x ∷ os) o h k = let a = and-eq-true-iff (isOutcome x) (allOutcomes os) .0 h in rw (a .0) (all-snoc os o (a .1) k)
-
 no-outcomes : (c : Counts) → c .slots ≡ 0 → Sound c → Gives c 0
 unfolding allOutcomes countsFrom
 no-outcomes c e s =
@@ -156,25 +154,17 @@ log-of-counts c e =
           ∙ ap (λ (d : Counts). record { answer = accepted; line = 0; counts = d }) (g .counts),
     )
 
-counts-sound : (os : List ℕ) (c : Counts) → allOutcomes os ≡ true → c .slots + length os ≤ 999999 → Sound c → Sound (countsFrom c os)
-unfolding allOutcomes countsFrom
-counts-sound [] c g h s = s
-counts-sound (o ∷ os) c g h s =
-    let a = and-eq-true-iff (isOutcome o) (allOutcomes os) .0 g in
-    counts-sound os (counted c o) (a .1) (counted-few c o (length os) h) (counted-sound o (a .0) c (omega arith) s)
-
-tuned-sound : (n : ℕ) → Sound (tuned n)
-tuned-sound n = record { few = omega arith; each = refl; clean = omega arith; least = omega arith; most = omega arith }
-
 counts-both : (c : Counts) → isChannel (c .channel) ≡ true → isSound c ≡ true → isCounts c ≡ true
 unfolding isCounts
 counts-both c h s = rw h s
 
 -- AN ACCEPTED LOG'S COUNTS SATISFY THE TEST
 pub counts-of-log : (log : List ℕ) → readOf log .answer ≡ accepted → isCounts (readOf log .counts) ≡ true
-unfolding readOf
 counts-of-log log e =
     let t = accepted-text log e in
+    let n = t .channel in
+    let os = t .outcomes in
+    let g = good n os (t .good) in
+    let k = subst (λ (s : Reader). isReader s ≡ true) (written-run n os (g .band) (g .all) (g .few)) (run-kept fresh (logText n os) fresh-kept .0) in
     rw (t .counts)
-    (counts-both (countsFrom (tuned (t .channel)) (t .outcomes)) (ap isChannel (counts-channel (t .outcomes) (tuned (t .channel))) ∙ t .band)
-    (sound-is _ (counts-sound (t .outcomes) (tuned (t .channel)) (t .all) (omega (arith, t .few)) (tuned-sound (t .channel)))))
+    (counts-both (countsFrom (tuned n) os) (ap isChannel (counts-channel os (tuned n)) ∙ g .band) (before-sound _ (ruled _ k .before)))

@@ -8,8 +8,10 @@ pub mod Runs
 pub mod Goes
 pub mod Written
 pub mod Slots
+pub mod Beginnings
+pub mod Refused
+pub mod Parted
 pub mod Accepted
 pub mod Exact
 pub mod Pieces
 pub mod Determined
-pub mod Refused

@@ -12,7 +12,7 @@ use borrow.Author.Tests.{eq-eqb}
 use Rattle.text.specs.Fields.{sameAs}
 use Rattle.log.specs.Decimal.{decimal}
 use Rattle.log.specs.Log.{tab, firstLine, slotLine, last, channelUpTo}
-use Rattle.log.proofs.Lists.{same-snoc, same-none, same-append, take-last}
+use Rattle.log.proofs.Lists.{cond-with, same-snoc, same-none, same-append, same-true, take-last}
 use Rattle.log.proofs.Decimal.{decimal-few, decimal-more}
 
 -- the last digit, and the digits before it
@@ -90,3 +90,11 @@ pub channel-none : (n : ℕ) (l : List ℕ) → n ≤ 0 → channelUpTo n l ≡ 
 unfolding channelUpTo
 channel-none zero l h = refl
 channel-none (suc n) l h = absurd (omega arith)
+
+-- the channel whose first line this is
+pub channel-line : (k : ℕ) (line : List ℕ) → (channelUpTo k line ≡ 0 → ⊥) → line ≡ firstLine (channelUpTo k line)
+unfolding channelUpTo
+channel-line zero line h = absurd (h refl)
+channel-line (suc k) line h =
+    cond-with (λ (n : ℕ). (n ≡ 0 → ⊥) → line ≡ firstLine n) (sameAs line (firstLine (suc k))) (λ e z. same-true line (firstLine (suc k)) e)
+    (λ e z. channel-line k line z) h

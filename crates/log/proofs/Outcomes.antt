@@ -89,7 +89,7 @@ clean-bits (suc bits) h =
     let k : one (eqb (suc bits) 0) ≡ 0 = ap one (ne-eqb (suc bits) 0 (λ e. omega arith)) in
     (omega arith, omega arith, omega arith)
 
-pub counted-sound : (o : ℕ) → isOutcome o ≡ true → (c : Counts) → c .slots < 999999 → Sound c → Sound (counted c o)
+counted-sound : (o : ℕ) → isOutcome o ≡ true → (c : Counts) → c .slots < 999999 → Sound c → Sound (counted c o)
 unfolding counted
 counted-sound =
     outcome-with (λ (o : ℕ). (c : Counts) → c .slots < 999999 → Sound c → Sound (counted c o))

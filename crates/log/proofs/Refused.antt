@@ -1,69 +1,91 @@
--- A log is refused at its first bad line, with that line's number and the counts before it. Assumes nothing.
-use Prim.Native.Nat.{ℕ, _+_, _≤_}
-use mathlib.Core.Path.{_≡_, refl, ap, _∙_}
-use mathlib.Core.Bool.{true, false}
-use mathlib.Core.List.{List, [], _∷_, _++_}
+-- What `read` tells of a good beginning and a rest: it is refused at the first bad line, with that line's number and the counts before it.
+-- Assumes nothing.
+use Prim.Native.Nat.{ℕ, _<_, _≤_}
+use mathlib.Core.Path.{_≡_, refl, ap, sym, _∙_}
+use mathlib.Core.Bool.{true}
+use mathlib.Core.List.{List, [], _∷_, _++_, append-nil}
 use native.Mathlib.Omega.{arith}
-use lib.ListN.{length}
-use lib.Dec.{eqb}
-use borrow.Author.Tests.{ne-eqb}
-use Rattle.answers.specs.Numbers.{refused}
-use Rattle.band.specs.Band.{isChannel}
-use Rattle.band.proofs.Laws.{in-range}
-use Rattle.log.specs.declared.Counts.{Counts}
+use lib.ListN.{length, length-append}
+use lib.Dec.{leb}
+use borrow.Author.Tests.{leb-true, leb-false, ne-eqb}
 use Rattle.log.specs.declared.Reader.{Reader}
 use Rattle.log.specs.declared.Phase.the-variants.{Open, Refused}
-use Rattle.log.specs.Log.{logText, allOutcomes, counted, countsFrom, tuned, channelUpTo, isNext, judged}
-use Rattle.log.specs.Reader.{between, fresh, afterLine, run, endedAt, wholeOf, readOf, isPlain}
-use Rattle.log.proofs.Runs.{run-append, run-shut, run-hold, line-run, heldOf}
-use Rattle.log.proofs.Written.{counts-channel, written-run}
+use Rattle.log.specs.Log.{logText}
+use Rattle.log.specs.Reader.{Told, between, fresh, run, endedAt, wholeOf, readOf, isPlain}
+use Rattle.log.specs.Beginning.{Beginning, nothing, lines, textOf, isGood, countsOf, GoodLine, Stops, refusedAfter, toldOf}
+use Rattle.log.proofs.Lists.{by-cases}
+use Rattle.log.proofs.Plain.{lines-with}
+use Rattle.log.proofs.Runs.{run-append, run-hold, run-shut, line-run, over-run, heldOf}
+use Rattle.log.proofs.Written.{written-run}
+use Rattle.log.proofs.Beginnings.{good, slots-are, tuned-some, next-line}
 
-ends : (s t : Reader) → s ≡ t → wholeOf (endedAt (s .phase) s) ≡ wholeOf (endedAt (t .phase) t)
-ends s t e = ap (λ (r : Reader). wholeOf (endedAt (r .phase) r)) e
+-- the end of a reader, told
+abbrev ends : Reader → Told
+ends s = wholeOf (endedAt (s .phase) s)
 
-slots-more : (os : List ℕ) (c : Counts) → countsFrom c os .slots ≡ c .slots + length os
-unfolding countsFrom counted
-slots-more [] c = omega arith
-slots-more (o ∷ os) c = slots-more os (counted c o) ∙ omega arith
+after-told : (b : Beginning) (rest : List ℕ) (s : Reader) → isGood b ≡ true → run (between Open (countsOf b)) rest ≡ s
+    → readOf (textOf b ++ rest) ≡ ends s
+unfolding readOf
+after-told nothing rest s g e = ap ends e
+after-told (lines n os) rest s g e =
+    let h = good n os g in
+    ap ends (run-append fresh (logText n os) rest ∙ ap (λ (r : Reader). run r rest) (written-run n os (h .band) (h .all) (h .few)) ∙ e)
 
-module _ (n : ℕ) (os : List ℕ) (band : isChannel n ≡ true) (all : allOutcomes os ≡ true) (few : length os ≤ 999999) where
-  tuned-some : eqb (countsFrom (tuned n) os .channel) 0 ≡ false
-  tuned-some = ap (λ (k : ℕ). eqb k 0) (counts-channel os (tuned n)) ∙ ne-eqb n 0 (λ z. omega (arith, in-range n band .0))
+shut-told : (b : Beginning) (rest : List ℕ) → isGood b ≡ true → run (between Open (countsOf b)) rest ≡ between Refused (countsOf b)
+    → readOf (textOf b ++ rest) ≡ refusedAfter b
+shut-told nothing rest g e = after-told nothing rest _ g e
+shut-told (lines n os) rest g e = after-told (lines n os) rest _ g e ∙ rw (tuned-some n os (good n os g .band), slots-are n os)
 
-  slots-are : countsFrom (tuned n) os .slots ≡ length os
-  slots-are = slots-more os (tuned n) ∙ omega arith
+-- A LINE OF 64 BYTES AND MORE IS REFUSED, WHATEVER FOLLOWS
+pub long-line : (b : Beginning) (line rest : List ℕ) → isGood b ≡ true → isPlain line ≡ true → 63 < length line
+    → readOf (textOf b ++ (line ++ rest)) ≡ refusedAfter b
+long-line b line rest g p h = shut-told b (line ++ rest) g (over-run line (countsOf b) [] rest p (omega arith) (omega arith))
 
-  after-text : (more : List ℕ) → run fresh (logText n os ++ more) ≡ run (between Open (countsFrom (tuned n) os)) more
-  after-text more = run-append fresh (logText n os) more ∙ ap (λ (s : Reader). run s more) (written-run n os band all few)
+-- A LINE THAT MAY NOT COME NEXT IS REFUSED, WHATEVER FOLLOWS
+pub bad-line : (b : Beginning) (line rest : List ℕ) → isGood b ≡ true → isPlain line ≡ true → (GoodLine b line → ⊥)
+    → readOf (textOf b ++ (line ++ (10 ∷ rest))) ≡ refusedAfter b
+bad-line b line rest g p n =
+    by-cases _ (leb (length line) 63)
+    (λ h. next-line b line _ g (λ q. absurd (n q))
+    (λ q e.
+    shut-told b (line ++ (10 ∷ rest)) g
+    (line-run (countsOf b) line rest p (leb-true (length line) 63 h) ∙ ap (λ (s : Reader). run s rest) e
+    ∙ run-shut (between Refused (countsOf b)) rest refl)))
+    (λ h. long-line b line (10 ∷ rest) g p (leb-false (length line) 63 h))
 
-  -- A LINE THAT IS NOT THE NEXT SLOT'S IS REFUSED AT ITS NUMBER, WHATEVER FOLLOWS
-  pub bad-line : (line rest : List ℕ) → isPlain line ≡ true → length line ≤ 63 → isNext (length os) line ≡ false
-      → readOf (logText n os ++ (line ++ (10 ∷ rest))) ≡ record { answer = refused 12; line = length os + 2; counts = countsFrom (tuned n) os }
-  unfolding readOf judged
-  bad-line line rest p h e =
-      let c = countsFrom (tuned n) os in
-      let z = tuned-some in
-      let k : isNext (c .slots) line ≡ false = ap (λ (m : ℕ). isNext m line) slots-are ∙ e in
-      let a : afterLine (judged c line) ≡ between Refused c = rw (z, k) in
-      ends _ (between Refused c)
-      (after-text (line ++ (10 ∷ rest)) ∙ line-run c line rest p h ∙ ap (λ (s : Reader). run s rest) a ∙ run-shut (between Refused c) rest refl)
-      ∙ rw (z, slots-are)
+held-told : (b : Beginning) (line : List ℕ) → isGood b ≡ true → ends (heldOf (countsOf b) line) ≡ toldOf b line
+held-told nothing line g = refl
+held-told (lines n os) [] g = rw (tuned-some n os (good n os g .band))
+held-told (lines n os) (x ∷ line) g =
+    rw (tuned-some n os (good n os g .band), ne-eqb (length (x ∷ line)) 0 (λ e. omega arith), slots-are n os)
 
-  -- AND SO IS A LAST LINE WITHOUT ITS LINE FEED
-  pub unfinished-line : (x : ℕ) (line : List ℕ) → isPlain (x ∷ line) ≡ true → length (x ∷ line) ≤ 63
-      → readOf (logText n os ++ (x ∷ line)) ≡ record { answer = refused 12; line = length os + 2; counts = countsFrom (tuned n) os }
-  unfolding readOf
-  unfinished-line x line p h =
-      let c = countsFrom (tuned n) os in
-      let z = tuned-some in
-      ends _ (heldOf c (x ∷ line)) (after-text (x ∷ line) ∙ run-hold (x ∷ line) c [] p (omega arith))
-      ∙ rw (z, ne-eqb (length (x ∷ line)) 0 (λ e. omega arith), slots-are)
+some-told : (b : Beginning) (rest : List ℕ) → 1 ≤ length rest → toldOf b rest ≡ refusedAfter b
+some-told nothing rest h = refl
+some-told (lines n os) [] h = absurd (omega arith)
+some-told (lines n os) (x ∷ rest) h = refl
 
--- A FIRST LINE OF NO CHANNEL IS REFUSED AS LINE 1
-pub bad-first : (line rest : List ℕ) → isPlain line ≡ true → length line ≤ 63 → channelUpTo 204 line ≡ 0
-    → readOf (line ++ (10 ∷ rest)) ≡ record { answer = refused 12; line = 1; counts = tuned 0 }
-unfolding readOf judged
-bad-first line rest p h e =
-    let a : afterLine (judged (tuned 0) line) ≡ between Refused (tuned 0) = rw e in
-    ends _ (between Refused (tuned 0))
-    (line-run (tuned 0) line rest p h ∙ ap (λ (s : Reader). run s rest) a ∙ run-shut (between Refused (tuned 0)) rest refl)
+-- a rest without a line feed
+pub plain-told : (b : Beginning) (line : List ℕ) → isGood b ≡ true → isPlain line ≡ true → readOf (textOf b ++ line) ≡ toldOf b line
+plain-told b line g p =
+    by-cases _ (leb (length line) 63)
+    (λ h. after-told b line _ g (run-hold line (countsOf b) [] p (omega (arith, leb-true (length line) 63 h))) ∙ held-told b line g)
+    (λ h.
+    let l = leb-false (length line) 63 h in
+    ap (λ (k : List ℕ). readOf (textOf b ++ k)) (sym (append-nil line)) ∙ long-line b line [] g p (omega arith)
+    ∙ sym (some-told b line (omega arith)))
+
+-- A LAST LINE WITHOUT ITS LINE FEED IS REFUSED, OF ANY LENGTH
+pub unfinished-line : (b : Beginning) (line : List ℕ) → isGood b ≡ true → isPlain line ≡ true → 1 ≤ length line
+    → readOf (textOf b ++ line) ≡ refusedAfter b
+unfinished-line b line g p h = plain-told b line g p ∙ some-told b line h
+
+-- AND SO IS A MISSING FIRST LINE: NO BYTES, OR NO LINE FEED AMONG THEM
+pub unfinished-first : (line : List ℕ) → isPlain line ≡ true → readOf line ≡ refusedAfter nothing
+unfinished-first line p = plain-told nothing line refl p
+
+-- WHAT `read` TELLS OF A GOOD BEGINNING AND A REST THAT NO GOOD LINE STARTS
+pub stops-told : (b : Beginning) (rest : List ℕ) → isGood b ≡ true → Stops b rest → readOf (textOf b ++ rest) ≡ toldOf b rest
+stops-told b rest g =
+    lines-with (λ k. Stops b k → readOf (textOf b ++ k) ≡ toldOf b k) (λ k p s. plain-told b k g p)
+    (λ line more p t s.
+    bad-line b line more g p (s line more refl) ∙ sym (some-told b (line ++ (10 ∷ more)) (omega (arith, length-append line (10 ∷ more))))) rest

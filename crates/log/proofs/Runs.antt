@@ -44,7 +44,7 @@ heldOf c l = record { phase = Open; counts = c; held = l ++ drop (length l) zero
 same-reader : (a b : Reader) → a .phase ≡ b .phase → a .counts ≡ b .counts → a .held ≡ b .held → a .length ≡ b .length → a ≡ b
 same-reader a b p q r s = λ i. record { phase = p i; counts = q i; held = r i; length = s i }
 
-pub step-hold : (c : Counts) (a : List ℕ) (x : ℕ) → eqb x 10 ≡ false → length a < 63 → stepOf (heldOf c a) x ≡ heldOf c (a ++ (x ∷ []))
+step-hold : (c : Counts) (a : List ℕ) (x : ℕ) → eqb x 10 ≡ false → length a < 63 → stepOf (heldOf c a) x ≡ heldOf c (a ++ (x ∷ []))
 unfolding stepOf openStep
 step-hold c a x e h =
     let k : length a < length zeros = h in
@@ -70,7 +70,7 @@ held-line : (c : Counts) (l : List ℕ) → lineOf (heldOf c l) ≡ l
 held-line c l = take-append-seam l (drop (length l) zeros)
 
 -- and judged at its line feed
-pub step-feed : (c : Counts) (l : List ℕ) → stepOf (heldOf c l) 10 ≡ afterLine (judged c l)
+step-feed : (c : Counts) (l : List ℕ) → stepOf (heldOf c l) 10 ≡ afterLine (judged c l)
 unfolding stepOf openStep
 step-feed c l = ap (λ (k : List ℕ). afterLine (judged c k)) (held-line c l)
 
@@ -158,9 +158,24 @@ after-kept c l b =
 held-full : (c : Counts) (l : List ℕ) → length l ≤ 63 → length (heldOf c l .held) ≡ 63
 held-full c l h = rw (length-append, length-drop) (omega (arith, length-replicate {A = ℕ} 63 0))
 
-pub step-over : (c : Counts) (l : List ℕ) (b : ℕ) → eqb b 10 ≡ false → ltb (length l) 63 ≡ false → stepOf (heldOf c l) b ≡ between Refused c
+step-over : (c : Counts) (l : List ℕ) (b : ℕ) → eqb b 10 ≡ false → ltb (length l) 63 ≡ false → stepOf (heldOf c l) b ≡ between Refused c
 unfolding stepOf openStep
 step-over c l b e f = rw (e, f)
+
+-- a 64th byte that is no line feed is refused, whatever follows
+pub over-run : (l : List ℕ) (c : Counts) (a rest : List ℕ) → isPlain l ≡ true → 63 < length a + length l → length a ≤ 63
+    → run (heldOf c a) (l ++ rest) ≡ between Refused c
+over-run [] c a rest p h k = absurd (omega arith)
+over-run (x ∷ l) c a rest p h k =
+    let t = plain-tail x l p in
+    let e = not-true (eqb x 10) (t .0) in
+    run-cons (heldOf c a) x (l ++ rest)
+    ∙ by-cases _ (ltb (length a) 63)
+    (λ f.
+    let g = ltb-true (length a) 63 f in
+    let n : length (a ++ (x ∷ [])) ≡ length a + 1 = length-append a (x ∷ []) in
+    ap (λ (s : Reader). run s (l ++ rest)) (step-hold c a x e g) ∙ over-run l c (a ++ (x ∷ [])) rest (t .1) (omega arith) (omega arith))
+    (λ f. ap (λ (s : Reader). run s (l ++ rest)) (step-over c a x e f) ∙ run-shut (between Refused c) (l ++ rest) refl)
 
 step-held : (c : Counts) (l : List ℕ) (b : ℕ) → isBefore c ≡ true → isPlain l ≡ true → length l ≤ 63 → Kept (stepOf (heldOf c l) b)
 step-held c l b k p h =

@@ -1,4 +1,4 @@
--- A log that is written line by line from outcomes reads back with the counts of those outcomes. Assumes nothing.
+-- A log that is written line by line from outcomes leads the machine to their counts. Assumes nothing.
 use Prim.Native.Nat.{ℕ, suc, zero, _+_, _-_, _<_, _≤_}
 use mathlib.Core.Path.{_≡_, refl, ap, sym, _∙_}
 use mathlib.Core.Bool.{true, false, and-eq-true-iff}
@@ -9,7 +9,6 @@ use lib.Seq.{getD-append-add, drop-append-seam}
 use lib.Dec.{eqb, leb}
 use borrow.Author.Tests.{lt-ltb, ne-eqb, leb-true, leb-false}
 use Rattle.text.specs.Fields.{sameAs}
-use Rattle.answers.specs.Numbers.{accepted}
 use Rattle.band.specs.Band.{isChannel}
 use Rattle.band.proofs.Laws.{in-range}
 use Rattle.log.specs.declared.Counts.{Counts}
@@ -18,7 +17,7 @@ use Rattle.log.specs.declared.Reader.{Reader}
 use Rattle.log.specs.declared.Phase.the-variants.{Open}
 use Rattle.log.specs.Decimal.{decimal}
 use Rattle.log.specs.Log.{tab, firstLine, slotLine, isOutcome, slotLines, logText, allOutcomes, counted, countsFrom, tuned, last, channelUpTo, isNext, judged}
-use Rattle.log.specs.Reader.{between, fresh, afterLine, run, endedAt, wholeOf, readOf, isPlain, isBefore}
+use Rattle.log.specs.Reader.{between, fresh, afterLine, run, isPlain, isBefore}
 use Rattle.log.proofs.Lists.{by-cases, same-refl, same-true}
 use Rattle.log.proofs.Decimal.{decimal-length, decimal-plain, decimal-once}
 use Rattle.log.proofs.Lines.{channelTab, channel-here, channel-next}
@@ -26,7 +25,7 @@ use Rattle.log.proofs.Plain.{plain-append, plain-one}
 use Rattle.log.proofs.Outcomes.{outcome-with, judged-before}
 use Rattle.log.proofs.Runs.{run-none, line-run}
 
-first-once : (m n : ℕ) → m ≤ 204 → n ≤ 204 → firstLine m ≡ firstLine n → m ≡ n
+pub first-once : (m n : ℕ) → m ≤ 204 → n ≤ 204 → firstLine m ≡ firstLine n → m ≡ n
 unfolding firstLine
 first-once m n h k e =
     decimal-once m n (omega arith) (omega arith)
@@ -57,7 +56,7 @@ tab-plain : isPlain channelTab ≡ true
 unfolding isPlain
 tab-plain = refl
 
-first-plain : (n : ℕ) → isPlain (firstLine n) ≡ true
+pub first-plain : (n : ℕ) → isPlain (firstLine n) ≡ true
 unfolding firstLine
 first-plain n = plain-append channelTab (decimal n) tab-plain (decimal-plain n)
 
@@ -71,7 +70,7 @@ first-judged n e = let r = in-range n e in rw (channel-found 204 n (r .0) (r .1)
 
 -- a slot's line
 
-slot-last : (n o : ℕ) → last (slotLine n o) ≡ o
+pub slot-last : (n o : ℕ) → last (slotLine n o) ≡ o
 unfolding slotLine
 slot-last n o =
     let e : length (decimal n ++ (tab ∷ o ∷ [])) - 1 ≡ length (decimal n) + 1 = rw length-append (omega arith) in
@@ -81,7 +80,7 @@ outcome-plain : (o : ℕ) → isOutcome o ≡ true → o ≡ 10 → ⊥
 outcome-plain =
     outcome-with (λ (o : ℕ). o ≡ 10 → ⊥) (λ b h e. omega arith) (λ e. omega arith) (λ e. omega arith) (λ e. omega arith)
 
-slot-plain : (n o : ℕ) → isOutcome o ≡ true → isPlain (slotLine n o) ≡ true
+pub slot-plain : (n o : ℕ) → isOutcome o ≡ true → isPlain (slotLine n o) ≡ true
 unfolding slotLine
 slot-plain n o h =
     plain-append (decimal n) (tab ∷ o ∷ []) (decimal-plain n)
@@ -91,18 +90,21 @@ slot-length : (n o : ℕ) → length (slotLine n o) ≤ 63
 unfolding slotLine
 slot-length n o = rw length-append (omega (arith, decimal-length n .1))
 
+pub next-is : (n o : ℕ) → isOutcome o ≡ true → n < 999999 → isNext n (slotLine (n + 1) o) ≡ true
+unfolding isNext
+next-is n o h k = rw (slot-last (n + 1) o, lt-ltb n 999999 k, h, same-refl (slotLine (n + 1) o))
+
 slot-judged : (c : Counts) (o : ℕ) → eqb (c .channel) 0 ≡ false → c .slots < 999999 → isOutcome o ≡ true
     → judged c (slotLine (c .slots + 1) o) ≡ record { good = true; counts = counted c o }
-unfolding judged isNext
-slot-judged c o z h k =
-    rw (slot-last (c .slots + 1) o, z, lt-ltb (c .slots) 999999 h, k, same-refl (slotLine (c .slots + 1) o))
+unfolding judged
+slot-judged c o z h k = rw (slot-last (c .slots + 1) o, z, next-is (c .slots) o k h)
 
 counted-next : (c : Counts) (o : ℕ) (os : List ℕ) (r : Reader)
     → run (between Open (counted c o)) (slotLines (counted c o .slots + 1) os) ≡ r → run (between Open (counted c o)) (slotLines (c .slots + 1 + 1) os) ≡ r
 unfolding counted
 counted-next c o os r e = e
 
-pub counted-channel : (c : Counts) (o : ℕ) → eqb (c .channel) 0 ≡ false → eqb (counted c o .channel) 0 ≡ false
+counted-channel : (c : Counts) (o : ℕ) → eqb (c .channel) 0 ≡ false → eqb (counted c o .channel) 0 ≡ false
 unfolding counted
 counted-channel c o e = e
 
@@ -111,7 +113,12 @@ unfolding countsFrom counted
 counts-channel [] c = refl
 counts-channel (o ∷ os) c = counts-channel os (counted c o)
 
-pub counted-few : (c : Counts) (o n : ℕ) → c .slots + suc n ≤ 999999 → counted c o .slots + n ≤ 999999
+pub all-snoc : (os : List ℕ) (o : ℕ) → allOutcomes os ≡ true → isOutcome o ≡ true → allOutcomes (os ++ (o ∷ [])) ≡ true
+unfolding allOutcomes
+all-snoc [] o h k = rw k
+all-snoc (x ∷ os) o h k = let a = and-eq-true-iff (isOutcome x) (allOutcomes os) .0 h in rw (a .0) (all-snoc os o (a .1) k)
+
+counted-few : (c : Counts) (o n : ℕ) → c .slots + suc n ≤ 999999 → counted c o .slots + n ≤ 999999
 unfolding counted
 counted-few c o n h = omega arith
 
@@ -143,11 +150,3 @@ written-run n os e g h =
     line-run (tuned 0) (firstLine n) (slotLines 1 os) (first-plain n) (first-length n)
     ∙ ap (λ (j : Judged). run (afterLine j) (slotLines 1 os)) (first-judged n e)
     ∙ slots-run os (tuned n) (ne-eqb n 0 (λ z. omega (arith, in-range n e .0))) g (omega arith)
-
--- A LOG WRITTEN FROM OUTCOMES READS BACK WITH THEIR COUNTS
-pub written-read : (n : ℕ) (os : List ℕ) → isChannel n ≡ true → allOutcomes os ≡ true → length os ≤ 999999
-    → readOf (logText n os) ≡ record { answer = accepted; line = 0; counts = countsFrom (tuned n) os }
-unfolding readOf
-written-read n os e g h =
-    let z : eqb (countsFrom (tuned n) os .channel) 0 ≡ false = ap (λ (k : ℕ). eqb k 0) (counts-channel os (tuned n)) ∙ ne-eqb n 0 (λ z. omega (arith, in-range n e .0)) in
-    ap (λ (s : Reader). wholeOf (endedAt (s .phase) s)) (written-run n os e g h) ∙ rw z

@@ -1,4 +1,5 @@
 pub mod Decimal
 pub mod Log
 pub mod Reader
+pub mod Beginning
 pub mod Machine
