@@ -8,7 +8,7 @@ use Rattle.answers.specs.declared.Refusal.{Refusal}
 use Rattle.answers.specs.declared.Refusal.the-variants.{WrongLength, NoCodeWord, CheckBits, HeaderCheck, OtherChannel, HeaderForm, CountOrPadding, OutOfStep, TooMany, TooShort, OutsideRule, BadLine, NotThisGroup, TooLong}
 use Rattle.answers.specs.declared.Answer.{Answer}
 use Rattle.answers.specs.declared.Answer.the-variants.{Accepted, Refused}
-use Rattle.answers.specs.Numbers.{numberOf, paper}
+use Rattle.answers.specs.Numbers.{numberOf, accepted, refused, paper}
 
 -- `number`
 pub number-once : (refusal : Refusal) (r s : ℕ) → r ≡ numberOf refusal → s ≡ numberOf refusal → r ≡ s
@@ -48,3 +48,7 @@ paper-once Accepted Accepted e = refl
 paper-once Accepted (Refused b) e = let z : _≡_ {A = ℕ} 0 1 = cc in absurd (omega arith)
 paper-once (Refused a) Accepted e = let z : _≡_ {A = ℕ} 0 1 = cc in absurd (omega arith)
 paper-once (Refused a) (Refused b) e = let n : numberOf a ≡ numberOf b = cc in ap Refused (refusal-once a b n)
+
+-- a refusal is no acceptance
+pub refused-accepted : (n : ℕ) → refused n ≡ accepted → ⊥
+refused-accepted n e = let z : _≡_ {A = ℕ} 0 1 = cc in omega arith

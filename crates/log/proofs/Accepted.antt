@@ -3,9 +3,9 @@ use Prim.Native.Nat.{ℕ, _≤_}
 use mathlib.Core.Path.{_≡_, ap, sym, _∙_}
 use mathlib.Core.Bool.{true}
 use mathlib.Core.List.{List, [], _∷_, _++_, append-nil}
-use native.Mathlib.Omega.{arith}
 use lib.ListN.{length}
-use Rattle.answers.specs.Numbers.{accepted, refused}
+use Rattle.answers.specs.Numbers.{accepted}
+use Rattle.answers.proofs.Determined.{refused-accepted}
 use Rattle.band.specs.Band.{isChannel}
 use Rattle.log.specs.Log.{logText, allOutcomes, countsFrom, tuned}
 use Rattle.log.specs.Reader.{Told, readOf}
@@ -22,13 +22,10 @@ written-read n os e g h =
     ap readOf (sym (append-nil (logText n os)))
     ∙ plain-told (lines n os) [] (good-is n os (record { band = e; all = g; few = h })) plain-none
 
-refused-not : (t : Told) → t .answer ≡ accepted → t .answer ≡ refused 12 → ⊥
-refused-not t d e = let z : _≡_ {A = ℕ} 0 1 = cc in omega arith
-
 told-text : (log : List ℕ) (b : Beginning) (rest : List ℕ) → isGood b ≡ true → log ≡ textOf b ++ rest → readOf log ≡ toldOf b rest
     → readOf log .answer ≡ accepted → AcceptedLog log
-told-text log nothing rest g t r e = absurd (refused-not (readOf log) e (ap (λ (t : Told). t .answer) r))
-told-text log (lines n os) (x ∷ rest) g t r e = absurd (refused-not (readOf log) e (ap (λ (t : Told). t .answer) r))
+told-text log nothing rest g t r e = absurd (refused-accepted 12 (sym (ap (λ (t : Told). t .answer) r) ∙ e))
+told-text log (lines n os) (x ∷ rest) g t r e = absurd (refused-accepted 12 (sym (ap (λ (t : Told). t .answer) r) ∙ e))
 told-text log (lines n os) [] g t r e =
     record {
       channel = n;

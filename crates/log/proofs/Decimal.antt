@@ -8,7 +8,7 @@ use native.Mathlib.Nat.{pow-suc, div-lt-iff-lt-mul, div-add-mod'}
 use lib.ListN.{length, length-append}
 use lib.Dec.{ltb}
 use borrow.Author.Tests.{ltb-true, ltb-false, lt-ltb, le-ltb}
-use Rattle.log.specs.Decimal.{spelled, decimal}
+use Rattle.log.specs.Decimal.{spelled, decimal, numberFrom}
 use Rattle.log.specs.Reader.{isPlain}
 use Rattle.log.proofs.Plain.{plain-append, plain-one}
 
@@ -65,37 +65,33 @@ pub decimal-length : (n : ℕ) → (1 ≤ length (decimal n)) × (length (decima
 unfolding decimal
 decimal-length n = spelled-length 19 n
 
--- the number that digits spell, after those of v
-unfoldable pub valueFrom : ℕ → List ℕ → ℕ
-valueFrom v [] = v
-valueFrom v (b ∷ bs) = valueFrom (v * 10 + (b - 48)) bs
-
-pub value-append : (a b : List ℕ) (v : ℕ) → valueFrom v (a ++ b) ≡ valueFrom (valueFrom v a) b
-unfolding valueFrom
+-- digits, and then more
+pub value-append : (a b : List ℕ) (v : ℕ) → numberFrom v (a ++ b) ≡ numberFrom (numberFrom v a) b
+unfolding numberFrom
 value-append [] b v = refl
 value-append (x ∷ a) b v = value-append a b (v * 10 + (x - 48))
 
-value-digit : (v d : ℕ) → valueFrom v ((48 + d) ∷ []) ≡ v * 10 + d
-unfolding valueFrom
+value-digit : (v d : ℕ) → numberFrom v ((48 + d) ∷ []) ≡ v * 10 + d
+unfolding numberFrom
 value-digit v d = let e : 48 + d - 48 ≡ d = omega arith in ap (λ (k : ℕ). v * 10 + k) e
 
-spelled-value : (f n : ℕ) → n < 10 ^ suc f → valueFrom 0 (spelled f n) ≡ n
+spelled-value : (f n : ℕ) → n < 10 ^ suc f → numberFrom 0 (spelled f n) ≡ n
 spelled-value zero n h = rw (spelled-few 0 n h) (value-digit 0 n ∙ omega arith)
 spelled-value (suc f) n h =
     by-ten _ n (λ k. rw (spelled-few (suc f) n k) (value-digit 0 n ∙ omega arith))
     (λ k.
     rw (spelled-more f n k)
     (value-append (spelled f (n / 10)) ((48 + n % 10) ∷ []) 0
-    ∙ ap (λ (v : ℕ). valueFrom v ((48 + n % 10) ∷ [])) (spelled-value f (n / 10) (tenth f n h))
+    ∙ ap (λ (v : ℕ). numberFrom v ((48 + n % 10) ∷ [])) (spelled-value f (n / 10) (tenth f n h))
     ∙ value-digit (n / 10) (n % 10) ∙ div-add-mod' n 10))
 
 -- A NUMERAL SPELLS ITS NUMBER
-pub decimal-value : (n : ℕ) → n < 10 ^ 20 → valueFrom 0 (decimal n) ≡ n
+pub decimal-value : (n : ℕ) → n < 10 ^ 20 → numberFrom 0 (decimal n) ≡ n
 unfolding decimal
 decimal-value n h = spelled-value 19 n h
 
 pub decimal-once : (m n : ℕ) → m < 10 ^ 20 → n < 10 ^ 20 → decimal m ≡ decimal n → m ≡ n
-decimal-once m n h k e = sym (decimal-value m h) ∙ ap (valueFrom 0) e ∙ decimal-value n k
+decimal-once m n h k e = sym (decimal-value m h) ∙ ap (numberFrom 0) e ∙ decimal-value n k
 
 spelled-plain : (f n : ℕ) → isPlain (spelled f n) ≡ true
 spelled-plain zero n = rw (spelled-none n) (plain-one (48 + n) (λ e. omega arith))

@@ -19,15 +19,17 @@ use lib.Ieee.Scale.{round-same}
 use lib.ListN.{length}
 use borrow.Author.Tests.{eqb-true, eqb-false, ne-eqb, le-leb}
 use Rattle.bytes.specs.Bytes.{indexOf, indexAfter}
-use Rattle.answers.specs.Numbers.{accepted, refused}
+use Rattle.answers.specs.Numbers.{accepted}
+use Rattle.answers.proofs.Determined.{refused-accepted}
 use Rattle.log.specs.declared.Counts.{Counts}
+use Rattle.log.specs.Decimal.{numberFrom}
 use Rattle.log.specs.Log.{last, isCounts}
 use Rattle.log.proofs.Lists.{by-cases, cond-with}
 use Rattle.log.proofs.Decimal.{decimal-few}
 use Rattle.summary.specs.declared.Summary.{Summary}
 use Rattle.summary.specs.Summary.{summaryOf}
 use Rattle.summary.specs.Export.{decimals, expansion, cell, isSummary, exportedOf}
-use Rattle.summary.specs.Cells.{wholeIn, decimalsIn, numberFrom, digitsIn, placesIn, isDigits, isWhole, isFraction, isDecimalText, Shows, IsCell, Cells}
+use Rattle.summary.specs.Cells.{wholeIn, decimalsIn, digitsIn, placesIn, isDigits, isWhole, isFraction, isDecimalText, Shows, IsCell, Cells}
 use Rattle.summary.specs.Building.{Measured}
 use Rattle.summary.proofs.Expansion.{decimals-done, decimals-next}
 use Rattle.summary.proofs.Exactly.{small-zero, less, left-over, cross}
@@ -262,9 +264,6 @@ cells-given counts summary k e =
       missing = is-cell (summary .«missing_exists») (summary .missing) (missing-given summary counts e k);
     }
 
-not-accepted : (n : ℕ) → refused n ≡ accepted → ⊥
-not-accepted n e = let z : _≡_ {A = ℕ} 0 1 = cc in omega arith
-
 -- THE CELL OF A NUMBER THAT EXISTS DENOTES IT EXACTLY AND READS BACK AS THE SAME BINARY64; ANY OTHER IS EMPTY
 pub cell-shows : (counts : Counts) → isCounts counts ≡ true → Cells (summaryOf counts)
 cell-shows counts k = cells-given counts (summaryOf counts) k refl
@@ -277,5 +276,5 @@ export-shows counts summary out f g e =
     by-cases _ (isCounts counts)
     (λ k.
     by-cases _ (isSummary summary (summaryOf counts)) (λ s. cells-given counts summary k (summary-given summary counts f g k s))
-    (λ s. absurd (not-accepted 11 (rw (k, s) at e))))
-    (λ k. absurd (not-accepted 11 (rw k at e)))
+    (λ s. absurd (refused-accepted 11 (rw (k, s) at e))))
+    (λ k. absurd (refused-accepted 11 (rw k at e)))

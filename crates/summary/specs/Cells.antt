@@ -1,5 +1,5 @@
 -- How the text of a cell is read, from its bytes alone, and when it shows a number. Assumes nothing.
-use Prim.Native.Nat.{ℕ, suc, _+_, _-_, _*_, _^_}
+use Prim.Native.Nat.{ℕ, suc, _^_}
 use mathlib.Core.Path.{_≡_}
 use mathlib.Core.Bool.{Bool, true, false, _&&_, _||_}
 use mathlib.Core.List.{List, [], _∷_, _++_}
@@ -8,6 +8,7 @@ use lib.ListN.{length, getD, take, drop}
 use lib.Ieee.{Float, binary64, round}
 use lib.Ieee.Exact.{HasValue}
 use Rattle.bytes.specs.Bytes.{indexOf}
+use Rattle.log.specs.Decimal.{numberFrom}
 use Rattle.log.specs.Log.{last}
 use Rattle.summary.specs.declared.Summary.{Summary}
 use Rattle.summary.specs.Export.{cell}
@@ -19,11 +20,6 @@ wholeIn text = take (indexOf 46 text) text
 -- what stands after it
 unfoldable pub decimalsIn : List ℕ → List ℕ
 decimalsIn text = drop (suc (indexOf 46 text)) text
-
--- the number that digits spell, read on from that of the digits before them
-unfoldable pub numberFrom : ℕ → List ℕ → ℕ
-numberFrom before [] = before
-numberFrom before (b ∷ digits) = numberFrom (before * 10 + (b - 48)) digits
 
 -- A text denotes `digitsIn` / 10 ^ `placesIn`: the number that all its digits spell, and how many of them stand after the point
 unfoldable pub digitsIn : List ℕ → ℕ
