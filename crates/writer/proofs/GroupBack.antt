@@ -10,29 +10,32 @@ use borrow.Author.Tests.{eq-eqb, le-leb}
 use lib.Dec.{eqb, leb, eqb·suc-zero}
 use lib.ListN.{length, take, drop, replicate, length-append, length-take, length-drop, take-append-drop}
 use lib.Seq.{paste, length-paste, take-all}
+use Rattle.answers.specs.Numbers.{accepted, paper}
 use Rattle.channel.specs.Answers as channel
 use Rattle.channel.specs.Layer4.{sizeOf, blocksFor}
 use Rattle.channel.specs.State.{stepOf}
 use Rattle.channel.specs.declared.Channel.{Channel}
 use Rattle.channel.specs.declared.Header.{Header}
+use Rattle.channel.specs.declared.Stepped.{Stepped}
 use Rattle.channel.proofs.Laws.{rule-sc}
 use Rattle.group.specs.Answers.{Outcome, taken, whole, Left, leaves}
 use Rattle.group.specs.State.{groupOf, idle, keepsRule, within, joinedOn, joinOf}
 use Rattle.group.specs.Leading.{Message, answersTo, groupAfter, bufferAfter}
 use Rattle.group.specs.declared.Group.{Group}
 use Rattle.group.specs.declared.Phase.the-variants.{Gathering}
-use Rattle.group.proofs.Joining.{joins}
+use Rattle.group.proofs.Joining as joining
 use Rattle.group.proofs.Rule.{gathering-rule}
 use Rattle.group.proofs.Leading.{front}
-use Rattle.writer.specs.Reading.{answersOf, channelAfter, Listens, messageIn, handOn, messagesRead, GroupBack}
-use Rattle.writer.specs.Message.{headerFor, messageBlocks}
-use Rattle.writer.specs.Group.{groupFields, messagesOf, blocksOf, groupBlocks}
-use Rattle.writer.specs.Group as groups
+use Rattle.writer.specs.Reading.{pieces, Steps, Listens, messageIn, handOn, messagesIn, Joined, Joins, GroupBack}
+use Rattle.writer.specs.Message.{headerFor, messageBlocks, Writes}
+use Rattle.writer.specs.Group.{groupFields, messagesOf, blocksOf, groupBlocks, writeGroupOf}
 use Rattle.writer.specs.declared.Series.{Series}
-use Rattle.writer.proofs.ReadBack.{read-back, after-append}
+use Rattle.writer.specs.declared.Wrote.{Wrote}
+use Rattle.writer.proofs.Runs.{answersOf, channelAfter, messagesRead, steps-run, after-append, run-elim, joins-run}
+use Rattle.writer.proofs.ReadBack.{blocks-back}
 use Rattle.writer.proofs.Laws.{within-widths, within-true}
 use Rattle.writer.proofs.Writing.{message-count}
-use Rattle.writer.proofs.GroupWriting.{full-messages}
+use Rattle.writer.proofs.GroupWriting.{full-messages, group-pieces}
 
 -- ---- the channel: blocks to messages
 
@@ -47,26 +50,14 @@ read-append c (x ∷ xs) ys =
     let l = stepOf c x in
     ap (handOn (l .answer) (l .channel)) (read-append (l .channel) xs ys) ∙ handed-append (l .answer) (l .channel) (messagesRead (l .channel) xs) (messagesRead (channelAfter (l .channel) xs) ys)
 
-no-blocks : (c : Channel) (blocks : List (List ℕ)) → answersOf c blocks ≡ [] → blocks ≡ []
-no-blocks c [] e = refl
-no-blocks c (b ∷ blocks) e = let z : _≡_ {A = ℕ} 0 1 = cc in absurd (omega arith)
-
 -- "taken" .. "message" is one message
 one-read : (n : ℕ) (h : Header) (c : Channel) (blocks : List (List ℕ)) → answersOf c blocks ≡ replicate n channel.taken ++ (channel.message h ∷ [])
     → messagesRead c blocks ≡ messageIn h (channelAfter c blocks) ∷ []
-one-read zero h c [] e = let z : _≡_ {A = ℕ} 0 1 = cc in absurd (omega arith)
-one-read (suc n) h c [] e = let z : _≡_ {A = ℕ} 0 1 = cc in absurd (omega arith)
-one-read zero h c (b ∷ blocks) e =
-    let l = stepOf c b in
-    let is : l .answer ≡ channel.message h = cc in
-    let rest : answersOf (l .channel) blocks ≡ [] = cc in
-    subst (λ (bs : List (List ℕ)). handOn (l .answer) (l .channel) (messagesRead (l .channel) bs) ≡ messageIn h (channelAfter (l .channel) bs) ∷ []) (sym (no-blocks (l .channel) blocks rest))
-    (ap (λ (o : channel.Outcome). handOn o (l .channel) []) is)
-one-read (suc n) h c (b ∷ blocks) e =
-    let l = stepOf c b in
-    let is : l .answer ≡ channel.taken = cc in
-    let rest : answersOf (l .channel) blocks ≡ replicate n channel.taken ++ (channel.message h ∷ []) = cc in
-    ap (λ (o : channel.Outcome). handOn o (l .channel) (messagesRead (l .channel) blocks)) is ∙ one-read n h (l .channel) blocks rest
+one-read n h =
+    run-elim h (λ (k : ℕ) (c : Channel) (blocks : List (List ℕ)). messagesRead c blocks ≡ messageIn h (channelAfter c blocks) ∷ [])
+    (λ c b e. ap (λ (o : channel.Outcome). handOn o (stepOf c b .channel) []) e)
+    (λ k c b blocks e rest. ap (λ (o : channel.Outcome). handOn o (stepOf c b .channel) (messagesRead (stepOf c b .channel) blocks)) e ∙ rest)
+    n
 
 module _ (number ri : ℕ) (di : Bool) (small-number : number ≤ 16383) (small-ri : ri ≤ 3) where
   -- the blocks of messages are read as these messages, and the channel expects the SC after the last block's
@@ -82,7 +73,7 @@ module _ (number ri : ℕ) (di : Bool) (small-number : number ≤ 16383) (small-
       let sc = c .expected in
       let B = messageBlocks m di sc part in
       let small = rule-sc c (l .rule) in
-      let R = read-back m di part c l (within-true m sc (length part) (omega arith) (omega arith) (omega arith) small few) in
+      let R = blocks-back m di part c l (within-true m sc (length part) (omega arith) (omega arith) (omega arith) small few) in
       let c₁ = channelAfter c B in
       let n = message-count m di sc part in
       let e : (sc + length B) % 16 ≡ c₁ .expected = ap (λ (i : ℕ). (sc + i) % 16) n ∙ sym (R .expected) in
@@ -117,9 +108,9 @@ module _ (number ri : ℕ) (small-number : number ≤ 16383) (small-ri : ri ≤ 
       let m = groupFields number ri ((ci + 1) % 4) false last in
       let rules : (keepsRule g && within m (length s)) ≡ true = rw (rule, allowed ((ci + 1) % 4) (length s) false last (omega arith) hd) in
       let ours : (eqb number number && true) ≡ true = rw (eq-eqb number number refl) in
-      sym (joins g m s buffer room rules ours g refl (eq-eqb ((ci + 1) % 4) ((ci + 1) % 4) refl) hm)
+      sym (joining.joins g m s buffer room rules ours g refl (eq-eqb ((ci + 1) % 4) ((ci + 1) % 4) refl) hm)
 
-  pub record Joins (k : ℕ) (first : Bool) (ci : ℕ) (s : List ℕ) (g base : Group) (buffer : List ℕ) : Type 0 where
+  pub record SeriesJoins (k : ℕ) (first : Bool) (ci : ℕ) (s : List ℕ) (g base : Group) (buffer : List ℕ) : Type 0 where
     pub answers : answersTo g buffer (messagesOf (suc k) first number ri ci s) ≡ replicate k taken ++ (whole (base .held + length s) ∷ [])
     pub state : groupAfter g buffer (messagesOf (suc k) first number ri ci s) ≡ idle number
     pub bytes : take (base .held + length s) (bufferAfter g buffer (messagesOf (suc k) first number ri ci s)) ≡ take (base .held) buffer ++ s
@@ -127,7 +118,7 @@ module _ (number ri : ℕ) (small-number : number ≤ 16383) (small-ri : ri ≤ 
   series-joins : (k : ℕ) (first : Bool) (ci : ℕ) (s : List ℕ) (g base : Group) (buffer : List ℕ) → ci ≤ 3 → length s ≤ 255 * suc k → 3825 ≤ length buffer
       → base .number ≡ number → base .held ≤ 255 * base .messages → base .messages + suc k ≤ 15
       → joinOf g (groupFields number ri ci first (eqb k 0)) (take 255 s) buffer ≡ joinedOn base (groupFields number ri ci first (eqb k 0)) (take 255 s) buffer
-      → Joins k first ci s g base buffer
+      → SeriesJoins k first ci s g base buffer
   unfolding joinedOn
   series-joins zero first ci s g base buffer hc hs room is hh hm e =
       let all : take 255 s ≡ s = take-all 255 s (omega arith) in
@@ -172,34 +163,42 @@ module _ (number ri : ℕ) (small-number : number ≤ 16383) (small-ri : ri ≤ 
 -- ---- both
 
 -- A GROUP WRITTEN READS BACK
-pub group-back : (x : Series) (s : List ℕ) (c : Channel) (g : Group) (buffer : List ℕ) → groups.within x (length s) ≡ true → Listens c → c .expected ≡ x .sc
-    → keepsRule g ≡ true → g .number ≡ x .number → 3825 ≤ length buffer → GroupBack x s c g buffer
+pub group-back : (x : Series) (s before after : List ℕ) (w : Wrote) (c : Channel) (steps : List Stepped) (g : Group) (buffer : List ℕ) (joins : List Joined)
+    → Writes (writeGroupOf x s (length before)) w before after → paper (w .answer) ≡ accepted
+    → Listens c → c .expected ≡ x .sc → Steps c (pieces (w .blocks) after) steps
+    → keepsRule g ≡ true → g .number ≡ x .number → 3825 ≤ length buffer → Joins g buffer (messagesIn steps) joins
+    → GroupBack x s w c steps g buffer joins
 unfolding groupBlocks
-group-back x s c g buffer fits l sc rule same room =
-    let b = within-widths fits in
+group-back x s before after w c steps g buffer joins wrote took l sc did rule same room joined =
+    let p = group-pieces x s before after w wrote took in
+    let b = within-widths (p .0) in
     let n = length s in
     let k = (n - 1) / 255 in
     let f = full-messages n (b .4) in
     let messages = messagesOf (suc k) true (x .number) (x .ri) (x .ci) s in
-    let blocks : blocksOf (x .di) (c .expected) messages ≡ groupBlocks x s =
-    λ i. blocksOf (x .di) (sc i) (messagesOf (sym (add-one k) i) true (x .number) (x .ri) (x .ci) s) in
+    let blocks : pieces (w .blocks) after ≡ blocksOf (x .di) (c .expected) messages =
+    p .2 ∙ λ i. blocksOf (x .di) (sym sc i) (messagesOf (add-one k i) true (x .number) (x .ri) (x .ci) s) in
     let R = series-read (x .number) (x .ri) (x .di) (omega arith) (omega arith) (suc k) true (x .ci) s c (omega arith) l in
-    let read : messagesRead c (groupBlocks x s) ≡ messages = ap (messagesRead c) (sym blocks) ∙ R .0 in
+    let S = steps-run c (blocksOf (x .di) (c .expected) messages) steps (subst (λ (bs : List (List ℕ)). Steps c bs steps) blocks did) in
+    let read : messagesIn steps ≡ messages = S .2 ∙ R .0 in
+    let G = joins-run g buffer messages joins (subst (λ (ms : List Message). Joins g buffer ms joins) read joined) in
     let m = groupFields (x .number) (x .ri) (x .ci) true (eqb k 0) in
     let few : length (take 255 s) ≤ 255 = omega (arith, length-take 255 s) in
     let rules : (keepsRule g && within m (length (take 255 s))) ≡ true =
     rw (rule, allowed (x .number) (x .ri) (omega arith) (omega arith) (x .ci) (length (take 255 s)) true (eqb k 0) (omega arith) few) in
     let ours : (eqb (x .number) (g .number) && true) ≡ true = rw (eq-eqb _ _ (sym same)) in
     let first : joinOf g m (take 255 s) buffer ≡ joinedOn (idle (x .number)) m (take 255 s) buffer =
-    sym (joins g m (take 255 s) buffer room rules ours (idle (g .number)) refl refl (omega arith))
+    sym (joining.joins g m (take 255 s) buffer room rules ours (idle (g .number)) refl refl (omega arith))
     ∙ ap (λ (i : ℕ). joinedOn (idle i) m (take 255 s) buffer) same in
     let J = series-joins (x .number) (x .ri) (omega arith) (omega arith) k true (x .ci) s g (idle (x .number)) buffer (omega arith) (omega arith) room refl (omega arith) (omega arith) first in
     let less : k + 1 - 1 ≡ k = omega arith in
     let none : 0 + n ≡ n = omega arith in
+    let count : w .blocks ≡ length (blocksOf (x .di) (c .expected) messages) = p .1 ∙ ap length (sym (p .2) ∙ blocks) in
     record {
-      answers = ap (answersTo g buffer) read ∙ J .answers ∙ (λ i. replicate (sym less i) taken ++ (whole (none i) ∷ []));
-      state = ap (groupAfter g buffer) read ∙ J .state;
-      bytes = (λ i. take (sym none i) (bufferAfter g buffer (read i))) ∙ J .bytes;
-      listens = subst (λ (bs : List (List ℕ)). Listens (channelAfter c bs)) blocks (R .1);
-      expected = subst (λ (bs : List (List ℕ)). channelAfter c bs .expected ≡ (c .expected + length bs) % 16) blocks (R .2) ∙ ap (λ (i : ℕ). (i + length (groupBlocks x s)) % 16) sc;
+      messages = read ∙ ap (λ (j : ℕ). messagesOf j true (x .number) (x .ri) (x .ci) s) (sym (add-one k));
+      answers = G .0 ∙ J .answers ∙ (λ i. replicate (sym less i) taken ++ (whole (none i) ∷ []));
+      state = G .1 ∙ J .state;
+      bytes = (λ i. take (sym none i) (G .2 i)) ∙ J .bytes;
+      listens = rw (S .1) (R .1);
+      expected = ap (λ (d : Channel). d .expected) (S .1) ∙ R .2 ∙ (λ i. (sc i + sym count i) % 16);
     }

@@ -1,38 +1,54 @@
 -- Document 01, "Reading back is claimed from a ready channel that expects the starting SC. Written again, an accepted message has the same
 -- header, data and padding, and the same blocks where its first SC is given and all its DIs were the one given." What these claims say of
--- messages and of groups. Assumes nothing.
-use Prim.Native.Nat.{ℕ, _+_, _-_, _%_}
+-- any outcomes that the contracts of the writers, of `Channel::step` and of `Group::join` allow. Assumes nothing.
+use Prim.Native.Nat.{ℕ, zero, suc, _+_, _-_, _%_, _≤_}
 use mathlib.Core.Path.{_≡_}
 use mathlib.Core.Bool.{Bool, true}
 use mathlib.Core.List.{List, [], _∷_, _++_}
 use lib.ListN.{length, take, drop, replicate}
+use Rattle.answers.specs.Numbers as answers
 use Rattle.gf2.specs.Poly.{bit}
 use Rattle.header.specs.Fields.{field, Bytes}
-use Rattle.channel.specs.Answers.{Outcome, taken, message, refused}
+use Rattle.channel.specs.Answers.{Outcome, taken, message, refused, outcome, paper}
 use Rattle.channel.specs.Layer3.{layer3, headerOf}
 use Rattle.channel.specs.State.{keepsRule, stepOf}
 use Rattle.channel.specs.declared.Channel.{Channel}
 use Rattle.channel.specs.declared.Fields.{Fields}
 use Rattle.channel.specs.declared.Header.{Header}
 use Rattle.channel.specs.declared.Phase.the-variants.{Ready}
+use Rattle.channel.specs.declared.Stepped.{Stepped}
 use Rattle.group.specs.Answers as group
-use Rattle.group.specs.Leading.{Message, answersTo, groupAfter, bufferAfter}
-use Rattle.group.specs.State.{idle}
+use Rattle.group.specs.Leading.{Message}
+use Rattle.group.specs.State.{idle, joinOf}
 use Rattle.group.specs.declared.Group.{Group}
-use Rattle.writer.specs.Message.{headerFor, blocksOf, messageBlocks, within}
-use Rattle.writer.specs.Group.{messagesFor, groupBlocks}
+use Rattle.group.specs.declared.Stepped as joined
+use Rattle.writer.specs.Message.{headerFor, blocksOf, messageBytes, within}
+use Rattle.writer.specs.Group.{messagesFor, messagesOf}
 use Rattle.writer.specs.declared.Series.{Series}
+use Rattle.writer.specs.declared.Wrote.{Wrote}
 
--- ---- a message
+-- ---- blocks through a channel
 
--- a run of information blocks through a channel: every answer, and the channel at the end
-abbrev pub answersOf : Channel → List (List ℕ) → List Outcome
-answersOf c [] = []
-answersOf c (b ∷ blocks) = stepOf c b .answer ∷ answersOf (stepOf c b .channel) blocks
+-- so many information blocks, 22 bytes each, from the front of an output
+abbrev pub pieces : ℕ → List ℕ → List (List ℕ)
+pieces zero output = []
+pieces (suc k) output = take 22 output ∷ pieces k (drop 22 output)
 
-abbrev pub channelAfter : Channel → List (List ℕ) → Channel
-channelAfter c [] = c
-channelAfter c (b ∷ blocks) = channelAfter (stepOf c b .channel) blocks
+-- what `Channel::step` gives for block after block, each time from the channel that it left
+abbrev pub Steps : Channel → List (List ℕ) → List Stepped → Type 0
+Steps c [] [] = Unit
+Steps c [] (r ∷ steps) = ⊥
+Steps c (b ∷ blocks) [] = ⊥
+Steps c (b ∷ blocks) (r ∷ steps) = (paper r ≡ stepOf c b) × Steps (r .channel) blocks steps
+
+-- every answer, and the channel at the end
+abbrev pub answersIn : List Stepped → List Outcome
+answersIn [] = []
+answersIn (r ∷ steps) = outcome (r .answer) ∷ answersIn steps
+
+abbrev pub channelLeft : Channel → List Stepped → Channel
+channelLeft c [] = c
+channelLeft c (r ∷ steps) = channelLeft (r .channel) steps
 
 -- a channel that can take a message: ready, its rule kept, and its 260 bytes there
 pub record Listens (c : Channel) : Type 0 where
@@ -44,32 +60,54 @@ pub record Listens (c : Channel) : Type 0 where
 abbrev pub dataOf : Header → List ℕ → List ℕ
 dataOf m bytes = take (m .length) (drop (m .size) bytes)
 
--- a message's blocks, from a channel that listens and expects their first SC: "taken" .. "message" with every header field, and the
--- channel listens again, expects the SC after the last block's, and holds the data from byte h on
-pub record ReadBack (m : Fields) (di : Bool) (s : List ℕ) (c : Channel) : Type 0 where
-  pub answers : answersOf c (messageBlocks m di (c .expected) s) ≡ replicate (blocksOf (headerFor m (length s)) - 1) taken ++ (message (headerFor m (length s)) ∷ [])
-  pub listens : Listens (channelAfter c (messageBlocks m di (c .expected) s))
-  pub expected : channelAfter c (messageBlocks m di (c .expected) s) .expected ≡ (c .expected + blocksOf (headerFor m (length s))) % 16
-  pub stands : dataOf (headerFor m (length s)) (channelAfter c (messageBlocks m di (c .expected) s) .bytes) ≡ s
+-- ---- a message reads back
 
--- blocks of bytes, all with one DI
-abbrev pub Sent : Bool → List (List ℕ) → Type 0
-Sent di [] = Unit
-Sent di (b ∷ blocks) = (Bytes b × (field layer3 1 (headerOf b) ≡ bit di)) × Sent di blocks
+-- of a message written, the blocks of the output from a channel that listens and expects their first SC: "taken" .. "message" with every header
+-- field, and the channel listens again, expects the SC after the last block's, and holds the data from byte h on
+pub record ReadBack (m : Fields) (s : List ℕ) (w : Wrote) (c : Channel) (steps : List Stepped) : Type 0 where
+  pub blocks : w .blocks ≡ blocksOf (headerFor m (length s))
+  pub answers : answersIn steps ≡ replicate (w .blocks - 1) taken ++ (message (headerFor m (length s)) ∷ [])
+  pub listens : Listens (channelLeft c steps)
+  pub expected : channelLeft c steps .expected ≡ (c .expected + w .blocks) % 16
+  pub stands : dataOf (headerFor m (length s)) (channelLeft c steps .bytes) ≡ s
+
+-- ---- an accepted message, written again
+
+-- blocks of bytes
+abbrev pub OfBytes : List (List ℕ) → Type 0
+OfBytes [] = Unit
+OfBytes (b ∷ blocks) = Bytes b × OfBytes blocks
+
+-- all with this DI
+abbrev pub AllWith : Bool → List (List ℕ) → Type 0
+AllWith di [] = Unit
+AllWith di (b ∷ blocks) = (field layer3 1 (headerOf b) ≡ bit di) × AllWith di blocks
+
+-- the twenty data bytes of each block, one after the other
+abbrev pub twenties : List (List ℕ) → List ℕ
+twenties [] = []
+twenties (b ∷ blocks) = drop 2 b ++ twenties blocks
 
 -- the fields of a header that the writer takes
 abbrev pub fieldsOf : Header → Fields
 fieldsOf m = record { ri = m .ri; ci = m .ci; first = m .first; last = m .last; number = m .number; command = m .command }
 
--- the blocks of an accepted message, all with this DI: the writer takes its fields and its data, and writes these blocks for them
-pub record WrittenAgain (c : Channel) (di : Bool) (blocks : List (List ℕ)) (m : Header) : Type 0 where
-  pub accepted : within (fieldsOf m) (c .expected) (length (dataOf m (channelAfter c blocks .bytes))) ≡ true
-  pub header : headerFor (fieldsOf m) (length (dataOf m (channelAfter c blocks .bytes))) ≡ m
-  pub same : messageBlocks (fieldsOf m) di (c .expected) (dataOf m (channelAfter c blocks .bytes)) ≡ blocks
+-- of an accepted message whose gathered bytes stand in front of the channel's: with any SC the writer takes its fields and its data, and
+-- header, data and padding are then the gathered bytes
+pub record MessageAgain (m : Header) (bytes gathered : List ℕ) : Type 0 where
+  pub front : take (length gathered) bytes ≡ gathered
+  pub accepted : (sc : ℕ) → sc ≤ 15 → within (fieldsOf m) sc (length (dataOf m bytes)) ≡ true
+  pub header : headerFor (fieldsOf m) (length (dataOf m bytes)) ≡ m
+  pub same : messageBytes (headerFor (fieldsOf m) (length (dataOf m bytes))) (dataOf m bytes) ≡ gathered
 
--- ---- a group
+-- and of what the writer leaves: it is accepted, and these are its blocks
+pub record WrittenAgain (blocks : List (List ℕ)) (w : Wrote) (output : List ℕ) : Type 0 where
+  pub accepted : answers.paper (w .answer) ≡ answers.accepted
+  pub same : pieces (w .blocks) output ≡ blocks
 
--- the messages that a channel reads from a run of blocks, each with its data as the channel then holds it
+-- ---- a group reads back
+
+-- the messages that a channel gave, each with its data as the channel then held it
 abbrev pub messageIn : Header → Channel → Message
 messageIn h c = record { fields = fieldsOf h; bytes = dataOf h (c .bytes) }
 
@@ -78,15 +116,43 @@ handOn taken c messages = messages
 handOn (message h) c messages = messageIn h c ∷ messages
 handOn (refused n) c messages = messages
 
-abbrev pub messagesRead : Channel → List (List ℕ) → List Message
-messagesRead c [] = []
-messagesRead c (b ∷ blocks) = handOn (stepOf c b .answer) (stepOf c b .channel) (messagesRead (stepOf c b .channel) blocks)
+abbrev pub messagesIn : List Stepped → List Message
+messagesIn [] = []
+messagesIn (r ∷ steps) = handOn (outcome (r .answer)) (r .channel) (messagesIn steps)
 
--- the blocks of a group through a channel, and the messages that it reads through a group state: "taken" .. "group" with the data's length, the
--- state idle, and the data in front of the buffer; the channel listens again and expects the SC after the last block's
-pub record GroupBack (x : Series) (s : List ℕ) (c : Channel) (g : Group) (buffer : List ℕ) : Type 0 where
-  pub answers : answersTo g buffer (messagesRead c (groupBlocks x s)) ≡ replicate (messagesFor (length s) - 1) group.taken ++ (group.whole (length s) ∷ [])
-  pub state : groupAfter g buffer (messagesRead c (groupBlocks x s)) ≡ idle (x .number)
-  pub bytes : take (length s) (bufferAfter g buffer (messagesRead c (groupBlocks x s))) ≡ s
-  pub listens : Listens (channelAfter c (groupBlocks x s))
-  pub expected : channelAfter c (groupBlocks x s) .expected ≡ (x .sc + length (groupBlocks x s)) % 16
+-- what `Group::join` gives back, and the buffer as it leaves it
+pub record Joined : Type 0 where
+  pub stepped : joined.Stepped
+  pub buffer : List ℕ
+
+-- that for message after message, each time from the state and with the buffer that it left
+abbrev pub Joins : Group → List ℕ → List Message → List Joined → Type 0
+Joins g buffer [] [] = Unit
+Joins g buffer [] (j ∷ joins) = ⊥
+Joins g buffer (m ∷ messages) [] = ⊥
+Joins g buffer (m ∷ messages) (j ∷ joins) =
+    (group.left (j .stepped) (j .buffer) ≡ joinOf g (m .fields) (m .bytes) buffer) × Joins (j .stepped .group) (j .buffer) messages joins
+
+-- every answer, and the state and the buffer at the end
+abbrev pub joinAnswers : List Joined → List group.Outcome
+joinAnswers [] = []
+joinAnswers (j ∷ joins) = group.outcome (j .stepped .answer) ∷ joinAnswers joins
+
+abbrev pub groupLeft : Group → List Joined → Group
+groupLeft g [] = g
+groupLeft g (j ∷ joins) = groupLeft (j .stepped .group) joins
+
+abbrev pub bufferLeft : List ℕ → List Joined → List ℕ
+bufferLeft buffer [] = buffer
+bufferLeft buffer (j ∷ joins) = bufferLeft (j .buffer) joins
+
+-- of a group written, the blocks of the output through a channel, and the messages that it gives through a group state: these are the messages
+-- written, and "taken" .. "group" with the data's length, the state idle, and the data in front of the buffer; the channel listens again and
+-- expects the SC after the last block's
+pub record GroupBack (x : Series) (s : List ℕ) (w : Wrote) (c : Channel) (steps : List Stepped) (g : Group) (buffer : List ℕ) (joins : List Joined) : Type 0 where
+  pub messages : messagesIn steps ≡ messagesOf (messagesFor (length s)) true (x .number) (x .ri) (x .ci) s
+  pub answers : joinAnswers joins ≡ replicate (messagesFor (length s) - 1) group.taken ++ (group.whole (length s) ∷ [])
+  pub state : groupLeft g joins ≡ idle (x .number)
+  pub bytes : take (length s) (bufferLeft buffer joins) ≡ s
+  pub listens : Listens (channelLeft c steps)
+  pub expected : channelLeft c steps .expected ≡ (x .sc + w .blocks) % 16
