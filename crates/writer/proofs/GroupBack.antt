@@ -26,12 +26,12 @@ use Rattle.group.specs.declared.Phase.the-variants.{Gathering}
 use Rattle.group.proofs.Joining as joining
 use Rattle.group.proofs.Rule.{gathering-rule}
 use Rattle.group.proofs.Leading.{front}
-use Rattle.writer.specs.Reading.{pieces, Steps, Listens, messageIn, handOn, messagesIn, Joined, Joins, GroupBack}
+use Rattle.writer.specs.Reading.{pieces, Steps, Listens, messageIn, handOn, messagesIn, heardAll, Joined, Joins, GroupBack}
 use Rattle.writer.specs.Message.{headerFor, messageBlocks, Writes}
 use Rattle.writer.specs.Group.{groupFields, messagesOf, blocksOf, groupBlocks, writeGroupOf}
 use Rattle.writer.specs.declared.Series.{Series}
 use Rattle.writer.specs.declared.Wrote.{Wrote}
-use Rattle.writer.proofs.Runs.{answersOf, channelAfter, messagesRead, steps-run, after-append, run-elim, joins-run}
+use Rattle.writer.proofs.Runs.{answersOf, channelAfter, messagesRead, steps-run, after-append, answers-append, run-elim, joins-run}
 use Rattle.writer.proofs.ReadBack.{blocks-back}
 use Rattle.writer.proofs.Laws.{within-widths, within-true}
 use Rattle.writer.proofs.Writing.{message-count}
@@ -62,10 +62,11 @@ one-read n h =
 module _ (number ri : ℕ) (di : Bool) (small-number : number ≤ 16383) (small-ri : ri ≤ 3) where
   -- the blocks of messages are read as these messages, and the channel expects the SC after the last block's
   series-read : (k : ℕ) (first : Bool) (ci : ℕ) (s : List ℕ) (c : Channel) → ci ≤ 3 → Listens c
-      → (messagesRead c (blocksOf di (c .expected) (messagesOf k first number ri ci s)) ≡ messagesOf k first number ri ci s)
+      → (answersOf c (blocksOf di (c .expected) (messagesOf k first number ri ci s)) ≡ heardAll (messagesOf k first number ri ci s))
+      × (messagesRead c (blocksOf di (c .expected) (messagesOf k first number ri ci s)) ≡ messagesOf k first number ri ci s)
       × Listens (channelAfter c (blocksOf di (c .expected) (messagesOf k first number ri ci s)))
       × (channelAfter c (blocksOf di (c .expected) (messagesOf k first number ri ci s)) .expected ≡ (c .expected + length (blocksOf di (c .expected) (messagesOf k first number ri ci s))) % 16)
-  series-read zero first ci s c hc l = (refl, l, omega (arith, rule-sc c (l .rule)))
+  series-read zero first ci s c hc l = (refl, refl, l, omega (arith, rule-sc c (l .rule)))
   series-read (suc k) first ci s c hc l =
       let m = groupFields number ri ci first (eqb k 0) in
       let part = take 255 s in
@@ -83,12 +84,12 @@ module _ (number ri : ℕ) (di : Bool) (small-number : number ≤ 16383) (small-
       let ih = series-read k false ((ci + 1) % 4) (drop 255 s) c₁ (omega arith) (R .listens) in
       let one : messagesRead c B ≡ record { fields = m; bytes = part } ∷ [] =
       one-read (blocksFor (sizeOf (leb 512 number) + length part) - 1) (headerFor m (length part)) c B (R .answers) ∙ ap (λ (d : List ℕ). record { fields = m; bytes = d } ∷ []) (R .stands) in
-      let rest : messagesRead c₁ G ≡ messages = ap (messagesRead c₁) same ∙ ih .0 in
       let after : channelAfter c (B ++ G) ≡ channelAfter c₁ (blocksOf di (c₁ .expected) messages) = after-append c B G ∙ ap (channelAfter c₁) same in
       let count : length (B ++ G) ≡ length B + length (blocksOf di (c₁ .expected) messages) = length-append B G ∙ ap (λ (g : List (List ℕ)). length B + length g) same in (
-        read-append c B G ∙ ap₂ (λ (xs ys : List Message). xs ++ ys) one rest,
-        subst Listens (sym after) (ih .1),
-        ap (λ (d : Channel). d .expected) after ∙ ih .2 ∙ omega arith,
+        answers-append c B G ∙ ap₂ (λ (xs ys : List channel.Outcome). xs ++ ys) (R .answers) (ap (answersOf c₁) same ∙ ih .0),
+        read-append c B G ∙ ap₂ (λ (xs ys : List Message). xs ++ ys) one (ap (messagesRead c₁) same ∙ ih .1),
+        subst Listens (sym after) (ih .2),
+        ap (λ (d : Channel). d .expected) after ∙ ih .3 ∙ omega arith,
       )
 
 -- ---- the group state: messages to the group
@@ -180,7 +181,7 @@ group-back x s before after w c steps g buffer joins wrote took l sc did rule sa
     p .2 ∙ λ i. blocksOf (x .di) (sym sc i) (messagesOf (add-one k i) true (x .number) (x .ri) (x .ci) s) in
     let R = series-read (x .number) (x .ri) (x .di) (omega arith) (omega arith) (suc k) true (x .ci) s c (omega arith) l in
     let S = steps-run c (blocksOf (x .di) (c .expected) messages) steps (subst (λ (bs : List (List ℕ)). Steps c bs steps) blocks did) in
-    let read : messagesIn steps ≡ messages = S .2 ∙ R .0 in
+    let read : messagesIn steps ≡ messages = S .2 ∙ R .1 in
     let G = joins-run g buffer messages joins (subst (λ (ms : List Message). Joins g buffer ms joins) read joined) in
     let m = groupFields (x .number) (x .ri) (x .ci) true (eqb k 0) in
     let few : length (take 255 s) ≤ 255 = omega (arith, length-take 255 s) in
@@ -194,11 +195,13 @@ group-back x s before after w c steps g buffer joins wrote took l sc did rule sa
     let less : k + 1 - 1 ≡ k = omega arith in
     let none : 0 + n ≡ n = omega arith in
     let count : w .blocks ≡ length (blocksOf (x .di) (c .expected) messages) = p .1 ∙ ap length (sym (p .2) ∙ blocks) in
+    let all = ap (λ (j : ℕ). messagesOf j true (x .number) (x .ri) (x .ci) s) (sym (add-one k)) in
     record {
-      messages = read ∙ ap (λ (j : ℕ). messagesOf j true (x .number) (x .ri) (x .ci) s) (sym (add-one k));
+      heard = S .0 ∙ R .0 ∙ ap heardAll all;
+      messages = read ∙ all;
+      listens = rw (S .1) (R .2);
+      expected = ap (λ (d : Channel). d .expected) (S .1) ∙ R .3 ∙ (λ i. (sc i + sym count i) % 16);
       answers = G .0 ∙ J .answers ∙ (λ i. replicate (sym less i) taken ++ (whole (none i) ∷ []));
       state = G .1 ∙ J .state;
       bytes = (λ i. take (sym none i) (G .2 i)) ∙ J .bytes;
-      listens = rw (S .1) (R .1);
-      expected = ap (λ (d : Channel). d .expected) (S .1) ∙ R .2 ∙ (λ i. (sc i + sym count i) % 16);
     }

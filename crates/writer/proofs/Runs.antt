@@ -47,6 +47,10 @@ pub after-append : (c : Channel) (xs ys : List (List ℕ)) → channelAfter c (x
 after-append c [] ys = refl
 after-append c (x ∷ xs) ys = after-append (stepOf c x .channel) xs ys
 
+pub answers-append : (c : Channel) (xs ys : List (List ℕ)) → answersOf c (xs ++ ys) ≡ answersOf c xs ++ answersOf (channelAfter c xs) ys
+answers-append c [] ys = refl
+answers-append c (x ∷ xs) ys = ap (λ (l : List Outcome). stepOf c x .answer ∷ l) (answers-append (stepOf c x .channel) xs ys)
+
 -- a run that is answered "taken" .. "message", block by block
 no-blocks : (c : Channel) (blocks : List (List ℕ)) → answersOf c blocks ≡ [] → blocks ≡ []
 no-blocks c [] e = refl

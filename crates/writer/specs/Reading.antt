@@ -62,11 +62,15 @@ dataOf m bytes = take (m .length) (drop (m .size) bytes)
 
 -- ---- a message reads back
 
--- of a message written, the blocks of the output from a channel that listens and expects their first SC: "taken" .. "message" with every header
--- field, and the channel listens again, expects the SC after the last block's, and holds the data from byte h on
+-- "taken" .. "message" with every header field
+abbrev pub heard : Header → List Outcome
+heard m = replicate (blocksOf m - 1) taken ++ (message m ∷ [])
+
+-- of a message written, the blocks of the output from a channel that listens and expects their first SC: "taken" .. "message", and the channel
+-- listens again, expects the SC after the last block's, and holds the data from byte h on
 pub record ReadBack (m : Fields) (s : List ℕ) (w : Wrote) (c : Channel) (steps : List Stepped) : Type 0 where
   pub blocks : w .blocks ≡ blocksOf (headerFor m (length s))
-  pub answers : answersIn steps ≡ replicate (w .blocks - 1) taken ++ (message (headerFor m (length s)) ∷ [])
+  pub answers : answersIn steps ≡ heard (headerFor m (length s))
   pub listens : Listens (channelLeft c steps)
   pub expected : channelLeft c steps .expected ≡ (c .expected + w .blocks) % 16
   pub stands : dataOf (headerFor m (length s)) (channelLeft c steps .bytes) ≡ s
@@ -120,6 +124,11 @@ abbrev pub messagesIn : List Stepped → List Message
 messagesIn [] = []
 messagesIn (r ∷ steps) = handOn (outcome (r .answer)) (r .channel) (messagesIn steps)
 
+-- "taken" .. "message" for each
+abbrev pub heardAll : List Message → List Outcome
+heardAll [] = []
+heardAll (m ∷ messages) = heard (headerFor (m .fields) (length (m .bytes))) ++ heardAll messages
+
 -- what `Group::join` gives back, and the buffer as it leaves it
 pub record Joined : Type 0 where
   pub stepped : joined.Stepped
@@ -146,13 +155,14 @@ abbrev pub bufferLeft : List ℕ → List Joined → List ℕ
 bufferLeft buffer [] = buffer
 bufferLeft buffer (j ∷ joins) = bufferLeft (j .buffer) joins
 
--- of a group written, the blocks of the output through a channel, and the messages that it gives through a group state: these are the messages
--- written, and "taken" .. "group" with the data's length, the state idle, and the data in front of the buffer; the channel listens again and
--- expects the SC after the last block's
+-- of a group written, the blocks of the output through a channel: "taken" .. "message" for each message written, and the channel listens again and
+-- expects the SC after the last block's; and the messages that it gave through a group state: "taken" .. "group" with the data's length, the
+-- state idle, and the data in front of the buffer
 pub record GroupBack (x : Series) (s : List ℕ) (w : Wrote) (c : Channel) (steps : List Stepped) (g : Group) (buffer : List ℕ) (joins : List Joined) : Type 0 where
+  pub heard : answersIn steps ≡ heardAll (messagesOf (messagesFor (length s)) true (x .number) (x .ri) (x .ci) s)
   pub messages : messagesIn steps ≡ messagesOf (messagesFor (length s)) true (x .number) (x .ri) (x .ci) s
+  pub listens : Listens (channelLeft c steps)
+  pub expected : channelLeft c steps .expected ≡ (x .sc + w .blocks) % 16
   pub answers : joinAnswers joins ≡ replicate (messagesFor (length s) - 1) group.taken ++ (group.whole (length s) ∷ [])
   pub state : groupLeft g joins ≡ idle (x .number)
   pub bytes : take (length s) (bufferLeft buffer joins) ≡ s
-  pub listens : Listens (channelLeft c steps)
-  pub expected : channelLeft c steps .expected ≡ (x .sc + w .blocks) % 16
