@@ -134,7 +134,7 @@ pub record Joined : Type 0 where
   pub stepped : joined.Stepped
   pub buffer : List ℕ
 
--- that for message after message, each time from the state and with the buffer that it left
+-- what it gives for message after message, each time from the state and with the buffer that it left
 abbrev pub Joins : Group → List ℕ → List Message → List Joined → Type 0
 Joins g buffer [] [] = Unit
 Joins g buffer [] (j ∷ joins) = ⊥
