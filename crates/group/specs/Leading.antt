@@ -53,7 +53,7 @@ joinedBy (o ∷ answers) joined [] = joined
 joinedBy (o ∷ answers) joined (m ∷ messages) = joinedBy answers (joinedAfter o joined m) messages
 
 -- The leading bytes are the joined data: the state counts as many bytes, and the buffer begins with them. And where one message more is answered
--- "group", its length is that of the joined data with its own, which the buffer then begins with.
+-- "group", its length is that of the joined data with its own (with a First its own alone), which the buffer then begins with.
 pub record Leads (g : Group) (buffer joined : List ℕ) : Type 0 where
   pub counted : g .held ≡ length joined
   pub begins : take (length joined) buffer ≡ joined

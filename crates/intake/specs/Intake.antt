@@ -1,17 +1,20 @@
 -- A log that comes on standard input: no contract can name the bytes that the operating system hands over, so these say that there
 -- are some. Assumes nothing.
-use Prim.Native.Nat.{ℕ}
+use Prim.Native.Nat.{ℕ, _<_}
 use mathlib.Core.Path.{_≡_}
 use mathlib.Core.List.{List}
+use lib.ListN.{getD}
 use Rattle.log.specs.declared.Reader.{Reader}
 use Rattle.log.specs.Reader.{Told, fresh, run, readOf}
 
 -- what is told of the bytes, read as a log
 pub record Came (t : Told) : Type 0 where
   pub bytes : List ℕ
+  pub small : (k : ℕ) → getD bytes k 0 < 256
   pub read : readOf bytes ≡ t
 
 -- the bytes so far lead to this reader
 pub record Reached (s : Reader) : Type 0 where
   pub bytes : List ℕ
+  pub small : (k : ℕ) → getD bytes k 0 < 256
   pub led : run fresh bytes ≡ s

@@ -14,6 +14,7 @@ reached-end : (s : Reader) (end : Fed) → Reached s → toldFed end ≡ endOf s
 reached-end s end r e =
     record {
       bytes = r .bytes;
+      small = r .small;
       read = sym (pieces-end (r .bytes)) ∙ ap (λ (t : Reader). wholeOf (endOf t)) (r .led) ∙ ap wholeOf (sym e);
     }
 
