@@ -1,6 +1,7 @@
 -- Document 01, "Reading back is claimed from a ready channel that expects the starting SC. Written again, an accepted message has the same
--- header, data and padding, and the same blocks where its first SC is given and all its DIs were the one given." What these claims say of
--- any outcomes that the contracts of the writers, of `Channel::step` and of `Group::join` allow. Assumes nothing.
+-- header, data and padding, and the same blocks where its first SC is given and all its DIs were the one given." What these claims say: `ReadBack`,
+-- `WrittenAgain` and `GroupBack` of any outcomes that the contracts of the writers, of `Channel::step` and of `Group::join` allow, `MessageAgain` of
+-- the bytes of a message, as the writer's definitions lay them out. Assumes nothing.
 use Prim.Native.Nat.{ℕ, zero, suc, _+_, _-_, _%_, _≤_}
 use mathlib.Core.Path.{_≡_}
 use mathlib.Core.Bool.{Bool, true}
@@ -96,11 +97,12 @@ twenties (b ∷ blocks) = drop 2 b ++ twenties blocks
 abbrev pub fieldsOf : Header → Fields
 fieldsOf m = record { ri = m .ri; ci = m .ci; first = m .first; last = m .last; number = m .number; command = m .command }
 
--- of an accepted message whose gathered bytes stand in front of the channel's: with any SC the writer takes its fields and its data, and
--- header, data and padding are then the gathered bytes
+-- of an accepted message whose gathered bytes stand in front of the channel's: with any SC up to 15 its fields and its data pass the writer's test
+-- of widths, so that only a short output is refused, and header, data and padding as the writer lays them are the gathered bytes; `output-again`
+-- says it of what the writer leaves
 pub record MessageAgain (m : Header) (bytes gathered : List ℕ) : Type 0 where
   pub front : take (length gathered) bytes ≡ gathered
-  pub accepted : (sc : ℕ) → sc ≤ 15 → within (fieldsOf m) sc (length (dataOf m bytes)) ≡ true
+  pub fits : (sc : ℕ) → sc ≤ 15 → within (fieldsOf m) sc (length (dataOf m bytes)) ≡ true
   pub header : headerFor (fieldsOf m) (length (dataOf m bytes)) ≡ m
   pub same : messageBytes (headerFor (fieldsOf m) (length (dataOf m bytes))) (dataOf m bytes) ≡ gathered
 
