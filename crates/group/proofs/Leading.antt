@@ -8,12 +8,13 @@ use borrow.Author.Tests.{leb-true}
 use lib.Dec.{eqb, leb, ltb}
 use lib.ListN.{length, take, length-append}
 use lib.Seq.{paste, take-paste, take-length, length-take-le}
-use Rattle.group.specs.Answers.{Outcome, taken, whole, refused, Left}
+use Rattle.group.specs.Answers.{Outcome, taken, whole, refused, outcome, Left, left}
 use Rattle.group.specs.State.{idle, keepsRule, within, joinedOn, followed, joinOf}
-use Rattle.group.specs.Leading.{Message, answersTo, groupAfter, bufferAfter, joinedTo, changesNothing, joinedAfter, joinedBy, Leads}
+use Rattle.group.specs.Leading.{Message, Joined, Joins, joinAnswers, groupLeft, bufferLeft, joinedTo, changesNothing, joinedAfter, joinedBy, Leads}
 use Rattle.group.specs.declared.Group.{Group}
 use Rattle.group.specs.declared.Phase.{Phase}
 use Rattle.group.specs.declared.Phase.the-variants.{Idle, Gathering}
+use Rattle.group.specs.declared.Stepped.{Stepped}
 use Rattle.answers.proofs.Rules.{unless-elim}
 use Rattle.group.proofs.Laws.{cond-elim, rule-room}
 use Rattle.group.proofs.Joining.{is-idle}
@@ -75,11 +76,11 @@ module _ (g : Group) (buffer : List ℕ) (m : Message) where
       by-first false rule h = followed-told (g .phase) refl rule h
 
   -- A REFUSAL CHANGES NO BYTE; 10, 11 AND 13 LEAVE THE STATE AS IT STOOD, AND ANY OTHER IDLE
-  pub refused-kept : (n : ℕ) → joinOf g (m .fields) (m .bytes) buffer .answer ≡ refused n
-      → (joinOf g (m .fields) (m .bytes) buffer .group ≡ cond (changesNothing n) g (idle (g .number))) × (joinOf g (m .fields) (m .bytes) buffer .buffer ≡ buffer)
-  refused-kept n e =
-      let l = joinOf g (m .fields) (m .bytes) buffer in
-      subst (λ (o : Outcome). Tells (joinedTo (take (g .held) buffer) m) o (l .group) (l .buffer)) e told
+  pub refused-kept : (r : Stepped) (after : List ℕ) (n : ℕ) → left r after ≡ joinOf g (m .fields) (m .bytes) buffer → outcome (r .answer) ≡ refused n
+      → (r .group ≡ cond (changesNothing n) g (idle (g .number))) × (after ≡ buffer)
+  refused-kept r after n did e =
+      let d = joinedTo (take (g .held) buffer) m in
+      subst (λ (o : Outcome). Tells d o (r .group) after) e (subst (Told d) (sym did) told)
 
 -- ---- a run of messages
 
@@ -94,32 +95,36 @@ module _ (g : Group) (buffer joined : List ℕ) (c : Counts g buffer joined) whe
   counts-after m (whole n) h after t = (ap (λ (k : Group). k .held) (t .2), refl)
   counts-after m (refused n) h after t = counts-kept (changesNothing n) h after (t .0) (t .1)
 
-  counted-told : (m : Message) → Told g buffer m (joinedTo joined m) (joinOf g (m .fields) (m .bytes) buffer)
-  counted-told m =
+  counted-told : (m : Message) (r : Stepped) (after : List ℕ) → left r after ≡ joinOf g (m .fields) (m .bytes) buffer → Told g buffer m (joinedTo joined m) (left r after)
+  counted-told m r after did =
       let held : take (g .held) buffer ≡ joined = ap (λ (k : ℕ). take k buffer) (c .0) ∙ c .1 in
-      subst (λ (d : List ℕ). Told g buffer m (joinedTo d m) (joinOf g (m .fields) (m .bytes) buffer)) held (told g buffer m)
+      subst (Told g buffer m (joinedTo joined m)) (sym did)
+      (subst (λ (d : List ℕ). Told g buffer m (joinedTo d m) (joinOf g (m .fields) (m .bytes) buffer)) held (told g buffer m))
 
   leads : Leads g buffer joined
   leads =
       record {
         counted = c .0;
         begins = c .1;
-        completed = λ m n e.
-            let l = joinOf g (m .fields) (m .bytes) buffer in
-            let t = subst (λ (o : Outcome). Tells g buffer m (joinedTo joined m) o (l .group) (l .buffer)) e (counted-told m) in
+        completed = λ m r after n did e.
+            let t = subst (λ (o : Outcome). Tells g buffer m (joinedTo joined m) o (r .group) after) e (counted-told m r after did) in
             (t .0, t .1);
       }
 
-run-counts : (messages : List Message) (g : Group) (buffer joined : List ℕ) → Counts g buffer joined
-    → Counts (groupAfter g buffer messages) (bufferAfter g buffer messages) (joinedBy (answersTo g buffer messages) joined messages)
-run-counts [] g buffer joined c = c
-run-counts (m ∷ messages) g buffer joined c =
-    let l = joinOf g (m .fields) (m .bytes) buffer in
-    run-counts messages (l .group) (l .buffer) (joinedAfter (l .answer) joined m) (counts-after g buffer joined c m (l .answer) (l .group) (l .buffer) (counted-told g buffer joined c m))
+run-counts : (g : Group) (buffer : List ℕ) (messages : List Message) (joins : List Joined) (joined : List ℕ) → Joins g buffer messages joins → Counts g buffer joined
+    → Counts (groupLeft g joins) (bufferLeft buffer joins) (joinedBy (joinAnswers joins) joined messages)
+run-counts g buffer [] [] joined did c = c
+run-counts g buffer [] (j ∷ joins) joined did c = absurd did
+run-counts g buffer (m ∷ messages) [] joined did c = absurd did
+run-counts g buffer (m ∷ messages) (j ∷ joins) joined did c =
+    let r = j .stepped in
+    let o = outcome (r .answer) in
+    run-counts (r .group) (j .buffer) messages joins (joinedAfter o joined m) (did .1)
+    (counts-after g buffer joined c m o (r .group) (j .buffer) (counted-told g buffer joined c m r (j .buffer) (did .0)))
 
 -- After any messages whatever, from a state whose counted bytes the buffer has, as it has those of a fresh one, which counts none.
-pub leading-bytes : (g : Group) (buffer : List ℕ) (messages : List Message) → g .held ≤ length buffer
-    → Leads (groupAfter g buffer messages) (bufferAfter g buffer messages) (joinedBy (answersTo g buffer messages) (take (g .held) buffer) messages)
-leading-bytes g buffer messages h =
+pub leading-bytes : (g : Group) (buffer : List ℕ) (messages : List Message) (joins : List Joined) → Joins g buffer messages joins → g .held ≤ length buffer
+    → Leads (groupLeft g joins) (bufferLeft buffer joins) (joinedBy (joinAnswers joins) (take (g .held) buffer) messages)
+leading-bytes g buffer messages joins did h =
     let n = length-take-le (g .held) buffer h in
-    leads _ _ _ (run-counts messages g buffer (take (g .held) buffer) (sym n, ap (λ (k : ℕ). take k buffer) n))
+    leads _ _ _ (run-counts g buffer messages joins (take (g .held) buffer) did (sym n, ap (λ (k : ℕ). take k buffer) n))

@@ -1,5 +1,5 @@
--- Document 01, "where the caller gives the buffer back unchanged, its leading bytes are the joined data". What this claim says, whatever messages
--- come: those of other services stand between those of a group. Assumes nothing.
+-- Document 01, "where the caller gives the buffer back unchanged, its leading bytes are the joined data". What this claim says of any outcomes that
+-- the contract of `Group::join` allows, whatever messages come: those of other services stand between those of a group. Assumes nothing.
 use Prim.Native.Nat.{ℕ}
 use mathlib.Core.Path.{_≡_}
 use mathlib.Core.Bool.{Bool, cond, _||_}
@@ -7,35 +7,47 @@ use mathlib.Core.List.{List, [], _∷_, _++_}
 use lib.Dec.{eqb}
 use lib.ListN.{length, take}
 use Rattle.channel.specs.declared.Fields.{Fields}
-use Rattle.group.specs.Answers.{Outcome, taken, whole, refused}
+use Rattle.group.specs.Answers.{Outcome, taken, whole, refused, outcome, left}
 use Rattle.group.specs.State.{joinOf}
 use Rattle.group.specs.declared.Group.{Group}
+use Rattle.group.specs.declared.Stepped.{Stepped}
 
 -- a message: its fields and its data
 pub record Message : Type 0 where
   pub fields : Fields
   pub bytes : List ℕ
 
--- a run of messages through a group state, the buffer given back as each call left it: every answer, and the state and the buffer at the end
-abbrev pub answersTo : Group → List ℕ → List Message → List Outcome
-answersTo g buffer [] = []
-answersTo g buffer (m ∷ messages) =
-    joinOf g (m .fields) (m .bytes) buffer .answer
-    ∷ answersTo (joinOf g (m .fields) (m .bytes) buffer .group) (joinOf g (m .fields) (m .bytes) buffer .buffer) messages
+-- what `Group::join` gives back, and the buffer as it leaves it
+pub record Joined : Type 0 where
+  pub stepped : Stepped
+  pub buffer : List ℕ
 
-abbrev pub groupAfter : Group → List ℕ → List Message → Group
-groupAfter g buffer [] = g
-groupAfter g buffer (m ∷ messages) = groupAfter (joinOf g (m .fields) (m .bytes) buffer .group) (joinOf g (m .fields) (m .bytes) buffer .buffer) messages
+-- what it gives for message after message, each time from the state and with the buffer that it left
+abbrev pub Joins : Group → List ℕ → List Message → List Joined → Type 0
+Joins g buffer [] [] = Unit
+Joins g buffer [] (j ∷ joins) = ⊥
+Joins g buffer (m ∷ messages) [] = ⊥
+Joins g buffer (m ∷ messages) (j ∷ joins) =
+    (left (j .stepped) (j .buffer) ≡ joinOf g (m .fields) (m .bytes) buffer) × Joins (j .stepped .group) (j .buffer) messages joins
 
-abbrev pub bufferAfter : Group → List ℕ → List Message → List ℕ
-bufferAfter g buffer [] = buffer
-bufferAfter g buffer (m ∷ messages) = bufferAfter (joinOf g (m .fields) (m .bytes) buffer .group) (joinOf g (m .fields) (m .bytes) buffer .buffer) messages
+-- every answer, and the state and the buffer at the end
+abbrev pub joinAnswers : List Joined → List Outcome
+joinAnswers [] = []
+joinAnswers (j ∷ joins) = outcome (j .stepped .answer) ∷ joinAnswers joins
+
+abbrev pub groupLeft : Group → List Joined → Group
+groupLeft g [] = g
+groupLeft g (j ∷ joins) = groupLeft (j .stepped .group) joins
+
+abbrev pub bufferLeft : List ℕ → List Joined → List ℕ
+bufferLeft buffer [] = buffer
+bufferLeft buffer (j ∷ joins) = bufferLeft (j .buffer) joins
 
 -- the joined data with that of a message; with a First whatever was gathered is dropped
 abbrev pub joinedTo : List ℕ → Message → List ℕ
 joinedTo joined m = cond (m .fields .first) (m .bytes) (joined ++ m .bytes)
 
--- the numbers of the refusals that change nothing; of them 13 is given to each message of another service
+-- the numbers of the refusals that change nothing; a message of another service, or with COM, has 13 where neither 10 nor 11 comes first
 abbrev pub changesNothing : ℕ → Bool
 changesNothing n = eqb n 10 || eqb n 11 || eqb n 13
 
@@ -57,5 +69,5 @@ joinedBy (o ∷ answers) joined (m ∷ messages) = joinedBy answers (joinedAfter
 pub record Leads (g : Group) (buffer joined : List ℕ) : Type 0 where
   pub counted : g .held ≡ length joined
   pub begins : take (length joined) buffer ≡ joined
-  pub completed : (m : Message) (n : ℕ) → joinOf g (m .fields) (m .bytes) buffer .answer ≡ whole n
-      → (n ≡ length (joinedTo joined m)) × (take n (joinOf g (m .fields) (m .bytes) buffer .buffer) ≡ joinedTo joined m)
+  pub completed : (m : Message) (r : Stepped) (after : List ℕ) (n : ℕ) → left r after ≡ joinOf g (m .fields) (m .bytes) buffer → outcome (r .answer) ≡ whole n
+      → (n ≡ length (joinedTo joined m)) × (take n after ≡ joinedTo joined m)

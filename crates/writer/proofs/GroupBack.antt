@@ -18,20 +18,20 @@ use Rattle.channel.specs.declared.Channel.{Channel}
 use Rattle.channel.specs.declared.Header.{Header}
 use Rattle.channel.specs.declared.Stepped.{Stepped}
 use Rattle.channel.proofs.Laws.{rule-sc}
-use Rattle.group.specs.Answers.{Outcome, taken, whole, Left, leaves}
+use Rattle.group.specs.Answers.{Outcome, taken, whole, Left, leaves, left}
 use Rattle.group.specs.State.{groupOf, idle, keepsRule, within, joinedOn, joinOf}
-use Rattle.group.specs.Leading.{Message, answersTo, groupAfter, bufferAfter}
+use Rattle.group.specs.Leading.{Message, Joined, Joins, joinAnswers, groupLeft, bufferLeft}
 use Rattle.group.specs.declared.Group.{Group}
 use Rattle.group.specs.declared.Phase.the-variants.{Gathering}
 use Rattle.group.proofs.Joining as joining
 use Rattle.group.proofs.Rule.{gathering-rule}
 use Rattle.group.proofs.Leading.{front}
-use Rattle.writer.specs.Reading.{pieces, Steps, Listens, messageIn, handOn, messagesIn, heardAll, Joined, Joins, GroupBack}
+use Rattle.writer.specs.Reading.{pieces, Steps, Listens, messageIn, handOn, messagesIn, heardAll, GroupBack}
 use Rattle.writer.specs.Message.{headerFor, messageBlocks, Writes}
 use Rattle.writer.specs.Group.{groupFields, messagesOf, blocksOf, groupBlocks, writeGroupOf}
 use Rattle.writer.specs.declared.Series.{Series}
 use Rattle.writer.specs.declared.Wrote.{Wrote}
-use Rattle.writer.proofs.Runs.{answersOf, channelAfter, messagesRead, steps-run, after-append, answers-append, run-elim, joins-run}
+use Rattle.writer.proofs.Runs.{answersOf, channelAfter, messagesRead, steps-run, after-append, answers-append, run-elim}
 use Rattle.writer.proofs.ReadBack.{blocks-back}
 use Rattle.writer.proofs.Laws.{within-widths, within-true}
 use Rattle.writer.proofs.Writing.{message-count}
@@ -111,50 +111,51 @@ module _ (number ri : ℕ) (small-number : number ≤ 16383) (small-ri : ri ≤ 
       let ours : (eqb number number && true) ≡ true = rw (eq-eqb number number refl) in
       sym (joining.joins g m s buffer room rules ours g refl (eq-eqb ((ci + 1) % 4) ((ci + 1) % 4) refl) hm)
 
-  pub record SeriesJoins (k : ℕ) (first : Bool) (ci : ℕ) (s : List ℕ) (g base : Group) (buffer : List ℕ) : Type 0 where
-    pub answers : answersTo g buffer (messagesOf (suc k) first number ri ci s) ≡ replicate k taken ++ (whole (base .held + length s) ∷ [])
-    pub state : groupAfter g buffer (messagesOf (suc k) first number ri ci s) ≡ idle number
-    pub bytes : take (base .held + length s) (bufferAfter g buffer (messagesOf (suc k) first number ri ci s)) ≡ take (base .held) buffer ++ s
+  record SeriesJoins (k : ℕ) (s : List ℕ) (g base : Group) (buffer : List ℕ) (joins : List Joined) : Type 0 where
+    answers : joinAnswers joins ≡ replicate k taken ++ (whole (base .held + length s) ∷ [])
+    state : groupLeft g joins ≡ idle number
+    bytes : take (base .held + length s) (bufferLeft buffer joins) ≡ take (base .held) buffer ++ s
 
-  series-joins : (k : ℕ) (first : Bool) (ci : ℕ) (s : List ℕ) (g base : Group) (buffer : List ℕ) → ci ≤ 3 → length s ≤ 255 * suc k → 3825 ≤ length buffer
+  series-joins : (k : ℕ) (first : Bool) (ci : ℕ) (s : List ℕ) (g base : Group) (buffer : List ℕ) (joins : List Joined) → ci ≤ 3 → length s ≤ 255 * suc k → 3825 ≤ length buffer
       → base .number ≡ number → base .held ≤ 255 * base .messages → base .messages + suc k ≤ 15
       → joinOf g (groupFields number ri ci first (eqb k 0)) (take 255 s) buffer ≡ joinedOn base (groupFields number ri ci first (eqb k 0)) (take 255 s) buffer
-      → SeriesJoins k first ci s g base buffer
+      → Joins g buffer (messagesOf (suc k) first number ri ci s) joins → SeriesJoins k s g base buffer joins
   unfolding joinedOn
-  series-joins zero first ci s g base buffer hc hs room is hh hm e =
+  series-joins k first ci s g base buffer [] hc hs room is hh hm e did = absurd did
+  series-joins zero first ci s g base buffer (a ∷ b ∷ joins) hc hs room is hh hm e did = absurd (did .1)
+  series-joins zero first ci s g base buffer (a ∷ []) hc hs room is hh hm e did =
       let all : take 255 s ≡ s = take-all 255 s (omega arith) in
-      let l : joinOf g (groupFields number ri ci first true) (take 255 s) buffer ≡ leaves (whole (base .held + length s)) (idle number) (paste buffer (base .held) s (length s)) =
-      e ∙ (λ i. leaves (whole (base .held + length (all i))) (idle (is i)) (paste buffer (base .held) (all i) (length (all i)))) in
+      let l : left (a .stepped) (a .buffer) ≡ leaves (whole (base .held + length s)) (idle number) (paste buffer (base .held) s (length s)) =
+      did .0 ∙ e ∙ (λ i. leaves (whole (base .held + length (all i))) (idle (is i)) (paste buffer (base .held) (all i) (length (all i)))) in
       record {
         answers = ap (λ (x : Left). x .answer ∷ []) l;
         state = ap (λ (x : Left). x .group) l;
         bytes = ap (λ (x : Left). take (base .held + length s) (x .buffer)) l ∙ front buffer s (base .held) (omega arith);
       }
-  series-joins (suc j) first ci s g base buffer hc hs room is hh hm e =
-      let m = groupFields number ri ci first (eqb (suc j) 0) in
+  series-joins (suc j) first ci s g base buffer (a ∷ joins) hc hs room is hh hm e did =
       let part = take 255 s in
       let rest = drop 255 s in
       let few : length part ≤ 255 = omega (arith, length-take 255 s) in
       let held = base .held + length part in
       let next = groupOf number Gathering held (base .messages + 1) ci in
       let laid = paste buffer (base .held) part (length part) in
-      let l : joinOf g m part buffer ≡ leaves taken next laid =
-      e ∙ (rw (eqb·suc-zero j) (λ i. leaves taken (groupOf (is i) Gathering held (base .messages + 1) ci) laid)) in
+      let l : left (a .stepped) (a .buffer) ≡ leaves taken next laid =
+      did .0 ∙ e ∙ (rw (eqb·suc-zero j) (λ i. leaves taken (groupOf (is i) Gathering held (base .messages + 1) ci) laid)) in
       let long : length laid ≡ length buffer = length-paste buffer (base .held) part (length part) (omega arith) (omega arith) in
       let rule = gathering-rule number (base .held) (base .messages) (length part) ci small-number hh (omega arith) few hc in
       let few-rest : length (take 255 rest) ≤ 255 = omega (arith, length-take 255 rest) in
-      let left : length rest ≤ 255 * suc j = rw length-drop (omega arith) in
+      let less : length rest ≤ 255 * suc j = rw length-drop (omega arith) in
       let messages = messagesOf (suc j) false number ri ((ci + 1) % 4) rest in
-      let ih = series-joins j false ((ci + 1) % 4) rest next next laid (omega arith) left (omega arith) refl (omega arith) (omega arith)
-      (follows held (base .messages + 1) ci (eqb j 0) (take 255 rest) laid rule hc few-rest (omega arith) (omega arith)) in
+      let ih = series-joins j false ((ci + 1) % 4) rest next next laid joins (omega arith) less (omega arith) refl (omega arith) (omega arith)
+      (follows held (base .messages + 1) ci (eqb j 0) (take 255 rest) laid rule hc few-rest (omega arith) (omega arith))
+      (subst (λ (x : Left). Joins (x .group) (x .buffer) messages joins) l (did .1)) in
       let cut : part ++ rest ≡ s = take-append-drop 255 s in
       let total : held + length rest ≡ base .held + length s = omega (arith, ap length cut, length-append part rest) in
       record {
-        answers = ap (λ (x : Left). x .answer ∷ answersTo (x .group) (x .buffer) messages) l ∙ ap (λ (a : List Outcome). taken ∷ a) (ih .answers ∙ ap (λ (n : ℕ). replicate j taken ++ (whole n ∷ [])) total);
-        state = ap (λ (x : Left). groupAfter (x .group) (x .buffer) messages) l ∙ ih .state;
+        answers = ap (λ (x : Left). x .answer ∷ joinAnswers joins) l ∙ ap (λ (a : List Outcome). taken ∷ a) (ih .answers ∙ ap (λ (n : ℕ). replicate j taken ++ (whole n ∷ [])) total);
+        state = ap (λ (x : Left). groupLeft (x .group) joins) l ∙ ih .state;
         bytes =
-            ap (λ (x : Left). take (base .held + length s) (bufferAfter (x .group) (x .buffer) messages)) l
-            ∙ ap (λ (n : ℕ). take n (bufferAfter next laid messages)) (sym total)
+            (λ i. take (sym total i) (bufferLeft (l i .buffer) joins))
             ∙ ih .bytes
             ∙ ap (λ (r : List ℕ). r ++ rest) (front buffer part (base .held) (omega arith))
             ∙ append-assoc (take (base .held) buffer) part rest
@@ -182,7 +183,6 @@ group-back x s before after w c steps g buffer joins wrote took l sc did rule sa
     let R = series-read (x .number) (x .ri) (x .di) (omega arith) (omega arith) (suc k) true (x .ci) s c (omega arith) l in
     let S = steps-run c (blocksOf (x .di) (c .expected) messages) steps (subst (λ (bs : List (List ℕ)). Steps c bs steps) blocks did) in
     let read : messagesIn steps ≡ messages = S .2 ∙ R .1 in
-    let G = joins-run g buffer messages joins (subst (λ (ms : List Message). Joins g buffer ms joins) read joined) in
     let m = groupFields (x .number) (x .ri) (x .ci) true (eqb k 0) in
     let few : length (take 255 s) ≤ 255 = omega (arith, length-take 255 s) in
     let rules : (keepsRule g && within m (length (take 255 s))) ≡ true =
@@ -191,17 +191,18 @@ group-back x s before after w c steps g buffer joins wrote took l sc did rule sa
     let first : joinOf g m (take 255 s) buffer ≡ joinedOn (idle (x .number)) m (take 255 s) buffer =
     sym (joining.joins g m (take 255 s) buffer room rules ours (idle (g .number)) refl refl (omega arith))
     ∙ ap (λ (i : ℕ). joinedOn (idle i) m (take 255 s) buffer) same in
-    let J = series-joins (x .number) (x .ri) (omega arith) (omega arith) k true (x .ci) s g (idle (x .number)) buffer (omega arith) (omega arith) room refl (omega arith) (omega arith) first in
+    let J = series-joins (x .number) (x .ri) (omega arith) (omega arith) k true (x .ci) s g (idle (x .number)) buffer joins (omega arith) (omega arith) room refl (omega arith) (omega arith) first
+    (subst (λ (ms : List Message). Joins g buffer ms joins) read joined) in
     let less : k + 1 - 1 ≡ k = omega arith in
     let none : 0 + n ≡ n = omega arith in
     let count : w .blocks ≡ length (blocksOf (x .di) (c .expected) messages) = p .1 ∙ ap length (sym (p .2) ∙ blocks) in
     let all = ap (λ (j : ℕ). messagesOf j true (x .number) (x .ri) (x .ci) s) (sym (add-one k)) in
     record {
-      heard = S .0 ∙ R .0 ∙ ap heardAll all;
+      channelAnswers = S .0 ∙ R .0 ∙ ap heardAll all;
       messages = read ∙ all;
       listens = rw (S .1) (R .2);
       expected = ap (λ (d : Channel). d .expected) (S .1) ∙ R .3 ∙ (λ i. (sc i + sym count i) % 16);
-      answers = G .0 ∙ J .answers ∙ (λ i. replicate (sym less i) taken ++ (whole (none i) ∷ []));
-      state = G .1 ∙ J .state;
-      bytes = (λ i. take (sym none i) (G .2 i)) ∙ J .bytes;
+      answers = J .answers ∙ (λ i. replicate (sym less i) taken ++ (whole (none i) ∷ []));
+      state = J .state;
+      bytes = ap (λ (i : ℕ). take i (bufferLeft buffer joins)) (sym none) ∙ J .bytes;
     }

@@ -1,5 +1,4 @@
--- Runs of blocks through a channel and of messages through a group state, by the definitions of a step: any outcomes of the contracts are these.
--- Assumes nothing.
+-- Runs of blocks through a channel, by the definition of a step: any outcomes of the contract are these. Assumes nothing.
 use Prim.Native.Nat.{ℕ, zero, suc}
 use mathlib.Core.Path.{_≡_, refl, sym, ap, _∙_, subst}
 use mathlib.Core.List.{List, [], _∷_, _++_}
@@ -10,12 +9,8 @@ use Rattle.channel.specs.State.{stepOf}
 use Rattle.channel.specs.declared.Channel.{Channel}
 use Rattle.channel.specs.declared.Header.{Header}
 use Rattle.channel.specs.declared.Stepped.{Stepped}
-use Rattle.group.specs.Answers as group
-use Rattle.group.specs.Leading.{Message, answersTo, groupAfter, bufferAfter}
-use Rattle.group.specs.declared.Group.{Group}
-use Rattle.writer.specs.Reading.{Steps, answersIn, channelLeft, handOn, messagesIn, Joined, Joins, joinAnswers, groupLeft, bufferLeft}
-
--- ---- blocks through a channel
+use Rattle.group.specs.Leading.{Message}
+use Rattle.writer.specs.Reading.{Steps, answersIn, channelLeft, handOn, messagesIn}
 
 -- every answer, the channel at the end, and the messages on the way
 abbrev pub answersOf : Channel → List (List ℕ) → List Outcome
@@ -64,17 +59,3 @@ module _ (m : Header) (P : ℕ → Channel → List (List ℕ) → Type 0)
   run-elim (suc k) c [] e = let z : _≡_ {A = ℕ} 0 1 = cc in absurd (omega arith)
   run-elim zero c (b ∷ blocks) e = subst (λ (bs : List (List ℕ)). P 0 c (b ∷ bs)) (sym (no-blocks (stepOf c b .channel) blocks (cc))) (last c b (cc))
   run-elim (suc k) c (b ∷ blocks) e = more k c b blocks (cc) (run-elim k (stepOf c b .channel) blocks (cc))
-
--- ---- messages through a group state
-
-pub joins-run : (g : Group) (buffer : List ℕ) (messages : List Message) (joins : List Joined) → Joins g buffer messages joins
-    → (joinAnswers joins ≡ answersTo g buffer messages) × (groupLeft g joins ≡ groupAfter g buffer messages) × (bufferLeft buffer joins ≡ bufferAfter g buffer messages)
-joins-run g buffer [] [] s = (refl, refl, refl)
-joins-run g buffer [] (j ∷ joins) s = absurd s
-joins-run g buffer (m ∷ messages) [] s = absurd s
-joins-run g buffer (m ∷ messages) (j ∷ joins) s =
-    let ih = joins-run (j .stepped .group) (j .buffer) messages joins (s .1) in (
-      ap (λ (l : List group.Outcome). group.outcome (j .stepped .answer) ∷ l) (ih .0) ∙ ap (λ (l : group.Left). l .answer ∷ answersTo (l .group) (l .buffer) messages) (s .0),
-      ih .1 ∙ ap (λ (l : group.Left). groupAfter (l .group) (l .buffer) messages) (s .0),
-      ih .2 ∙ ap (λ (l : group.Left). bufferAfter (l .group) (l .buffer) messages) (s .0),
-    )

@@ -19,10 +19,9 @@ use Rattle.channel.specs.declared.Header.{Header}
 use Rattle.channel.specs.declared.Phase.the-variants.{Ready}
 use Rattle.channel.specs.declared.Stepped.{Stepped}
 use Rattle.group.specs.Answers as group
-use Rattle.group.specs.Leading.{Message}
-use Rattle.group.specs.State.{idle, joinOf}
+use Rattle.group.specs.Leading.{Message, Joined, joinAnswers, groupLeft, bufferLeft}
+use Rattle.group.specs.State.{idle}
 use Rattle.group.specs.declared.Group.{Group}
-use Rattle.group.specs.declared.Stepped as joined
 use Rattle.writer.specs.Message.{headerFor, blocksOf, messageBytes, within}
 use Rattle.writer.specs.Group.{messagesFor, messagesOf}
 use Rattle.writer.specs.declared.Series.{Series}
@@ -131,37 +130,11 @@ abbrev pub heardAll : List Message → List Outcome
 heardAll [] = []
 heardAll (m ∷ messages) = heard (headerFor (m .fields) (length (m .bytes))) ++ heardAll messages
 
--- what `Group::join` gives back, and the buffer as it leaves it
-pub record Joined : Type 0 where
-  pub stepped : joined.Stepped
-  pub buffer : List ℕ
-
--- what it gives for message after message, each time from the state and with the buffer that it left
-abbrev pub Joins : Group → List ℕ → List Message → List Joined → Type 0
-Joins g buffer [] [] = Unit
-Joins g buffer [] (j ∷ joins) = ⊥
-Joins g buffer (m ∷ messages) [] = ⊥
-Joins g buffer (m ∷ messages) (j ∷ joins) =
-    (group.left (j .stepped) (j .buffer) ≡ joinOf g (m .fields) (m .bytes) buffer) × Joins (j .stepped .group) (j .buffer) messages joins
-
--- every answer, and the state and the buffer at the end
-abbrev pub joinAnswers : List Joined → List group.Outcome
-joinAnswers [] = []
-joinAnswers (j ∷ joins) = group.outcome (j .stepped .answer) ∷ joinAnswers joins
-
-abbrev pub groupLeft : Group → List Joined → Group
-groupLeft g [] = g
-groupLeft g (j ∷ joins) = groupLeft (j .stepped .group) joins
-
-abbrev pub bufferLeft : List ℕ → List Joined → List ℕ
-bufferLeft buffer [] = buffer
-bufferLeft buffer (j ∷ joins) = bufferLeft (j .buffer) joins
-
 -- of a group written, the blocks of the output through a channel: "taken" .. "message" for each message written, and the channel listens again and
 -- expects the SC after the last block's; and the messages that it gave through a group state: "taken" .. "group" with the data's length, the
 -- state idle, and the data in front of the buffer
 pub record GroupBack (x : Series) (s : List ℕ) (w : Wrote) (c : Channel) (steps : List Stepped) (g : Group) (buffer : List ℕ) (joins : List Joined) : Type 0 where
-  pub heard : answersIn steps ≡ heardAll (messagesOf (messagesFor (length s)) true (x .number) (x .ri) (x .ci) s)
+  pub channelAnswers : answersIn steps ≡ heardAll (messagesOf (messagesFor (length s)) true (x .number) (x .ri) (x .ci) s)
   pub messages : messagesIn steps ≡ messagesOf (messagesFor (length s)) true (x .number) (x .ri) (x .ci) s
   pub listens : Listens (channelLeft c steps)
   pub expected : channelLeft c steps .expected ≡ (x .sc + w .blocks) % 16
