@@ -3,13 +3,12 @@ use mathlib.Core.Path.{_≡_, refl, sym, ap, _∙_, subst}
 use mathlib.Core.Bool.{Bool, true, false, _&&_, false≢true}
 use mathlib.Core.List.{List, [], _∷_, _++_}
 use mathlib.Core.Logic.{inl, inr}
-use Prim.Native.Nat.{ℕ, zero, suc, _+_, _*_, _≤_, _<_}
+use Prim.Native.Nat.{ℕ, zero, suc, _+_, _*_, _≤_}
 use native.Mathlib.Omega.{arith}
 use borrow.Author.Tests.{le-leb, lt-leb}
 use lib.Dec.{T, eqb, leb, ltb, ltb→lt, lit≤, lit<}
 use lib.Ieee.Fits.{and-l, and-r}
 use lib.ListN.{length, getD, replicate}
-use Rattle.answers.specs.Numbers.{accepted, refused}
 use Rattle.answers.specs.Rules.{unless}
 use Rattle.code.specs.Code.{generator, CodeWord, distance}
 use Rattle.code.proofs.Majority.{only-word, nine-away}
@@ -24,9 +23,9 @@ use Rattle.channel.specs.Answers.{leaves}
 use Rattle.channel.specs.Layer3.{layer3, headerOf, lfOf, scOf}
 use Rattle.channel.specs.Layer4.{sizeOf, blocksFor}
 use Rattle.channel.specs.State.{fresh, keepsRule, asWaiting, advanced, stepOf}
-use Rattle.writer.specs.Message.{Written, written, writeMessageOf, messageBlocks}
+use Rattle.writer.specs.Message.{Written}
 use Rattle.writer.proofs.Laws.{within-true}
-use Rattle.writer.proofs.Writing.{message-count}
+use Rattle.writer.proofs.Writing.{message-count, message-written}
 use Rattle.band.specs.Band.{Told}
 use Rattle.examples.specs.Table.{word, noWord, generatorLast, wrongCheck, clearedWord, clearedNoWord, headerHolds, headerRefused, khz, reserved, short, extended, Holds, AllHold, Cleared, Fills, zeros, generatorBlock, table}
 
@@ -175,13 +174,10 @@ p10 = (λ r e. both e, λ r e. both e)
 -- a number below 512 is written without EXT, a greater one with it; the rest is the size of the header
 fills : (ext : Bool) (least most bytes blocks : ℕ) → ((n : ℕ) → least ≤ n → n ≤ most → leb 512 n ≡ ext) → most ≤ 16383 → bytes ≤ 255
     → blocksFor (sizeOf ext + bytes) ≡ blocks → Fills least most bytes blocks
-unfolding writeMessageOf
 fills ext least most bytes blocks form known few fit m di sc s before after r ri ci low high sc-fits long room w =
     let count : blocksFor (sizeOf (leb 512 (m .number)) + length s) ≡ blocks = (λ i. blocksFor (sizeOf (form (m .number) low high i) + long i)) ∙ fit in
-    let takes : writeMessageOf m di sc s (length before) ≡ written accepted (messageBlocks m di sc s) =
-    (λ i. unless (within-true m sc (length s) (omega arith) (omega arith) (omega arith) (omega arith) (omega arith) i) (written (refused 11) [])
-    (unless (le-leb (22 * blocksFor (sizeOf (leb 512 (m .number)) + length s)) (length before) (omega arith) i) (written (refused 10) [])
-    (written accepted (messageBlocks m di sc s)))) in
+    let fits = within-true m sc (length s) (omega arith) (omega arith) (omega arith) (omega arith) (omega arith) in
+    let takes = message-written m di sc s (length before) fits (omega arith) in
     (w .answer ∙ ap (λ (t : Written). t .answer) takes, w .blocks ∙ ap (λ (t : Written). length (t .blocks)) takes ∙ message-count m di sc s ∙ count)
 
 short-holds : (bytes blocks : ℕ) → bytes ≤ 255 → blocksFor (4 + bytes) ≡ blocks → Holds (short bytes blocks)

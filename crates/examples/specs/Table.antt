@@ -77,7 +77,7 @@ table =
     ∷ headerHolds 164 25 1 ∷ headerRefused 164 24 4 ∷ headerRefused 0 0 5
     -- P9, P10
     ∷ khz 1 87600 ∷ khz 204 107900 ∷ reserved 205
-    -- P11, P12, and what stands beside them: no data, with either header
+    -- P11, P12; beside them the extended header with 255 bytes, and no data with either header
     ∷ short 16 1 ∷ short 17 2 ∷ extended 255 13 ∷ short 0 1 ∷ extended 0 1 ∷ []
 
 -- every outcome of the corrector for these bytes: accepted, with this word and this count
