@@ -12,3 +12,8 @@ unless-and false b x y = refl
 pub unless-elim : {A : Type 0} (P : A → Type 0) (b : Bool) (x y : A) → P x → (b ≡ true → P y) → P (unless b x y)
 unless-elim P true x y px py = py refl
 unless-elim P false x y px py = px
+
+-- what never holds of a test's refusal has, where it holds, passed the test
+pub unless-passed : {A : Type 0} (P : A → Type 0) (b : Bool) (x y : A) → (P x → ⊥) → P (unless b x y) → (b ≡ true) × P y
+unless-passed P true x y never p = (refl, p)
+unless-passed P false x y never p = absurd (never p)

@@ -8,7 +8,7 @@ use borrow.Author.Tests.{eqb-true, lt-leb}
 use lib.Dec.{eqb, leb}
 use lib.ListN.{length, getD, take, drop, replicate, length-drop, take-append-drop}
 use lib.Seq.{take-add, length-take-le, getD-take}
-use Rattle.answers.specs.Rules.{unless}
+use Rattle.answers.proofs.Rules.{unless-passed}
 use Rattle.gf2.specs.Poly.{bit}
 use Rattle.header.specs.Fields.{Bytes, Fit, field, fields, header, bytesOf, numberOf}
 use Rattle.header.proofs.Fields.{packed-lt, fields-fit, header-again, number-bytes, total-bytes}
@@ -24,9 +24,9 @@ use Rattle.writer.proofs.HeaderBack.{Right, ext-place}
 
 -- ---- what an accepted row has passed
 
-passed : (b : Bool) (n : ℕ) (r : Outcome) (h : Header) → unless b (refused n) r ≡ message h → (b ≡ true) × (r ≡ message h)
-passed true n r h e = (refl, e)
-passed false n r h e = let z : _≡_ {A = ℕ} 0 1 = cc in absurd (omega arith)
+-- a refusal is no message
+no-message : (h : Header) (n : ℕ) → refused n ≡ message h → ⊥
+no-message h n e = let z : _≡_ {A = ℕ} 0 1 = cc in omega arith
 
 record Passed (o : Opened) (bytes : List ℕ) (h : Header) : Type 0 where
   caf : not (o .caf) ≡ true
@@ -41,13 +41,14 @@ all-passed : (o : Opened) (bytes : List ℕ) (h : Header) → tested o bytes ≡
 unfolding tested
 all-passed o bytes h e =
     let end = o .header .size + o .header .length in
-    let a = passed (not (o .caf)) 6 _ h e in
-    let b = passed (o .checked) 4 _ h (a .1) in
-    let c = passed (eqb (o .rfa) 0) 6 _ h (b .1) in
-    let d = passed (rightForm (o .header .ext) (o .header .number)) 6 _ h (c .1) in
-    let f = passed (leb end 260) 14 _ h (d .1) in
-    let g = passed (eqb (blocksFor end * 20) (length bytes)) 7 _ h (f .1) in
-    let j = passed (zeros (drop end bytes)) 7 _ h (g .1) in
+    let Is : Outcome → Type 0 = λ r. r ≡ message h in
+    let a = unless-passed Is (not (o .caf)) _ _ (no-message h 6) e in
+    let b = unless-passed Is (o .checked) _ _ (no-message h 4) (a .1) in
+    let c = unless-passed Is (eqb (o .rfa) 0) _ _ (no-message h 6) (b .1) in
+    let d = unless-passed Is (rightForm (o .header .ext) (o .header .number)) _ _ (no-message h 6) (c .1) in
+    let f = unless-passed Is (leb end 260) _ _ (no-message h 14) (d .1) in
+    let g = unless-passed Is (eqb (blocksFor end * 20) (length bytes)) _ _ (no-message h 7) (f .1) in
+    let j = unless-passed Is (zeros (drop end bytes)) _ _ (no-message h 7) (g .1) in
     let m : message (o .header) ≡ message h = j .1 in
     record {
       caf = a .0;
