@@ -1,26 +1,21 @@
 -- A log is accepted exactly if it is the text of a channel and outcomes, and then with their counts. Assumes nothing.
-use Prim.Native.Nat.{ℕ, _≤_}
+use Prim.Native.Nat.{ℕ}
 use mathlib.Core.Path.{_≡_, ap, sym, _∙_}
 use mathlib.Core.Bool.{true}
 use mathlib.Core.List.{List, [], _∷_, _++_, append-nil}
-use lib.ListN.{length}
 use Rattle.answers.specs.Numbers.{accepted}
 use Rattle.answers.proofs.Determined.{refused-accepted}
-use Rattle.band.specs.Band.{isChannel}
-use Rattle.log.specs.Log.{logText, allOutcomes, countsFrom, tuned}
+use Rattle.log.specs.Log.{logText, countsFrom, tuned}
 use Rattle.log.specs.Reader.{Told, readOf}
 use Rattle.log.specs.Beginning.{Beginning, nothing, lines, textOf, isGood, toldOf, AcceptedLog}
 use Rattle.log.proofs.Plain.{plain-none}
-use Rattle.log.proofs.Beginnings.{good-is}
 use Rattle.log.proofs.Refused.{plain-told}
 use Rattle.log.proofs.Parted.{parted}
 
 -- A LOG WRITTEN FROM OUTCOMES READS BACK WITH THEIR COUNTS
-pub written-read : (n : ℕ) (os : List ℕ) → isChannel n ≡ true → allOutcomes os ≡ true → length os ≤ 999999
+pub written-read : (n : ℕ) (os : List ℕ) → isGood (lines n os) ≡ true
     → readOf (logText n os) ≡ record { answer = accepted; line = 0; counts = countsFrom (tuned n) os }
-written-read n os e g h =
-    ap readOf (sym (append-nil (logText n os)))
-    ∙ plain-told (lines n os) [] (good-is n os (record { band = e; all = g; few = h })) plain-none
+written-read n os g = ap readOf (sym (append-nil (logText n os))) ∙ plain-told (lines n os) [] g plain-none
 
 told-text : (log : List ℕ) (b : Beginning) (rest : List ℕ) → isGood b ≡ true → log ≡ textOf b ++ rest → readOf log ≡ toldOf b rest
     → readOf log .answer ≡ accepted → AcceptedLog log

@@ -18,7 +18,7 @@ use Rattle.log.proofs.Sound.{Sound, sound}
 use Rattle.log.proofs.Outcomes.{counted-read, before-sound}
 use Rattle.log.proofs.Written.{counts-channel, all-snoc, written-run}
 use Rattle.log.proofs.Runs.{ruled, run-kept, fresh-kept}
-use Rattle.log.proofs.Beginnings.{good}
+use Rattle.log.proofs.Beginnings.{good, good-is}
 use Rattle.log.proofs.Accepted.{written-read, accepted-text}
 
 same-counts : (a b : Counts) → a .channel ≡ b .channel → a .slots ≡ b .slots → a .read ≡ b .read → a .clean ≡ b .clean → a .bits ≡ b .bits
@@ -148,9 +148,10 @@ unfolding isCounts
 log-of-counts c e =
     let a = and-eq-true-iff (isChannel (c .channel)) (isSound c) .0 e in
     let s = sound c (a .1) in
-    let g = outcomes-of (c .slots) c refl s in (
+    let g = outcomes-of (c .slots) c refl s in
+    let h = good-is (c .channel) (g .outcomes) (record { band = a .0; all = g .all; few = omega (arith, g .long, s .few) }) in (
       logText (c .channel) (g .outcomes),
-      written-read (c .channel) (g .outcomes) (a .0) (g .all) (omega (arith, g .long, s .few))
+      written-read (c .channel) (g .outcomes) h
           ∙ ap (λ (d : Counts). record { answer = accepted; line = 0; counts = d }) (g .counts),
     )
 
