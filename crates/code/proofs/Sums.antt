@@ -18,7 +18,7 @@ unfoldable pub sumTo : ℕ → (ℕ → ℕ) → ℕ
 sumTo zero f = 0
 sumTo (suc n) f = f zero + sumTo n (λ v. f (suc v))
 
-pub sumTo-cong : (n : ℕ) (f g : ℕ → ℕ) → ((v : ℕ) → v < n → f v ≡ g v) → sumTo n f ≡ sumTo n g
+sumTo-cong : (n : ℕ) (f g : ℕ → ℕ) → ((v : ℕ) → v < n → f v ≡ g v) → sumTo n f ≡ sumTo n g
 unfolding sumTo
 sumTo-cong zero f g h = refl
 sumTo-cong (suc n) f g h = omega (arith, h zero (omega arith), sumTo-cong n (λ v. f (suc v)) (λ v. g (suc v)) (λ v l. h (suc v) (omega arith)))

@@ -28,7 +28,7 @@ abbrev pub sumOver : (ℕ → ℕ) → List ℕ → ℕ
 sumOver f [] = 0
 sumOver f (v ∷ vs) = f v + sumOver f vs
 
--- the differences of all ordered pairs of entries, modulo 273
+-- l - k modulo 273 for each entry l of one list and each k of another; of a list with itself, the differences of all its ordered pairs
 abbrev pub differences : List ℕ → List ℕ → List ℕ
 differences ss [] = []
 differences ss (k ∷ ks) = map (λ l. (273 + l - k) % 273) ss ++ differences ss ks
