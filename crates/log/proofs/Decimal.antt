@@ -66,7 +66,7 @@ unfolding decimal
 decimal-length n = spelled-length 19 n
 
 -- digits, and then more
-pub value-append : (a b : List ℕ) (v : ℕ) → numberFrom v (a ++ b) ≡ numberFrom (numberFrom v a) b
+value-append : (a b : List ℕ) (v : ℕ) → numberFrom v (a ++ b) ≡ numberFrom (numberFrom v a) b
 unfolding numberFrom
 value-append [] b v = refl
 value-append (x ∷ a) b v = value-append a b (v * 10 + (x - 48))
@@ -85,8 +85,8 @@ spelled-value (suc f) n h =
     ∙ ap (λ (v : ℕ). numberFrom v ((48 + n % 10) ∷ [])) (spelled-value f (n / 10) (tenth f n h))
     ∙ value-digit (n / 10) (n % 10) ∙ div-add-mod' n 10))
 
--- A NUMERAL SPELLS ITS NUMBER
-pub decimal-value : (n : ℕ) → n < 10 ^ 20 → numberFrom 0 (decimal n) ≡ n
+-- a numeral spells its number
+decimal-value : (n : ℕ) → n < 10 ^ 20 → numberFrom 0 (decimal n) ≡ n
 unfolding decimal
 decimal-value n h = spelled-value 19 n h
 

@@ -15,7 +15,7 @@ use Rattle.log.specs.declared.Reader.{Reader}
 use Rattle.log.specs.declared.Phase.{Phase}
 use Rattle.log.specs.declared.Phase.the-variants.{Open, Refused, Ended}
 use Rattle.log.specs.Log.{isSound, judged}
-use Rattle.log.specs.Reader.{between, fresh, lineOf, afterLine, holding, openStep, isOpen, stepOf, run, isPlain, isHeld, isHolding, isBefore, isReader}
+use Rattle.log.specs.Reader.{between, fresh, lineOf, afterLine, openStep, isOpen, stepOf, run, isPlain, isHeld, isHolding, isBefore, isReader}
 use Rattle.log.proofs.Lists.{cond-with, by-cases, same-refl, same-true}
 use Rattle.log.proofs.Plain.{plain-none, plain-append, plain-one, plain-tail}
 use Rattle.log.proofs.Outcomes.{judged-before}
@@ -103,7 +103,7 @@ ruled s e =
     let d = and-eq-true-iff (isPlain (lineOf s)) (sameAs (drop (s .length) (s .held)) (drop (s .length) zeros)) .0 (b .1) in
     record { holding = b .0; plain = d .0; clear = same-true _ _ (d .1); before = a .1 }
 
-pub ruled-is : (s : Reader) → Ruled s → isReader s ≡ true
+ruled-is : (s : Reader) → Ruled s → isReader s ≡ true
 unfolding isReader isHeld
 ruled-is s r =
     rw (r .holding, r .plain, r .clear, same-refl (drop (s .length) zeros)) (r .before)
@@ -111,7 +111,7 @@ ruled-is s r =
 pub between-ruled : (p : Phase) (c : Counts) → isHolding p 0 ≡ true → isBefore c ≡ true → isReader (between p c) ≡ true
 between-ruled p c h b = ruled-is (between p c) (record { holding = h; plain = plain-none; clear = refl; before = b })
 
-pub held-ruled : (c : Counts) (l : List ℕ) → isBefore c ≡ true → isPlain l ≡ true → length l ≤ 63 → isReader (heldOf c l) ≡ true
+held-ruled : (c : Counts) (l : List ℕ) → isBefore c ≡ true → isPlain l ≡ true → length l ≤ 63 → isReader (heldOf c l) ≡ true
 held-ruled c l b p h =
     ruled-is (heldOf c l)
     (record {

@@ -134,7 +134,7 @@ pub slot-before : (c : Counts) (o : ℕ) → eqb (c .channel) 0 ≡ false → c 
 slot-before c o z h k b =
     sym (ap (λ (j : Judged). isBefore (j .counts)) (slot-judged c o z h k)) ∙ judged-before c (slotLine (c .slots + 1) o) b
 
-pub slots-run : (os : List ℕ) (c : Counts) → eqb (c .channel) 0 ≡ false → allOutcomes os ≡ true → c .slots + length os ≤ 999999
+slots-run : (os : List ℕ) (c : Counts) → eqb (c .channel) 0 ≡ false → allOutcomes os ≡ true → c .slots + length os ≤ 999999
     → run (between Open c) (slotLines (c .slots + 1) os) ≡ between Open (countsFrom c os)
 unfolding slotLines countsFrom allOutcomes
 slots-run [] c z g h = run-none (between Open c)

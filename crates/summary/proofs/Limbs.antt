@@ -48,10 +48,10 @@ limb-value d f b =
 
 -- ---- the whole part and the rest
 
-pub whole-part : (h l : ℕ) → l < 2 ^ 36 → (h * 2 ^ 36 + l) / 2 ^ 72 ≡ h / 2 ^ 36
+whole-part : (h l : ℕ) → l < 2 ^ 36 → (h * 2 ^ 36 + l) / 2 ^ 72 ≡ h / 2 ^ 36
 whole-part h l k = omega arith
 
-pub rest-part : (h l : ℕ) → l < 2 ^ 36 → (h * 2 ^ 36 + l) % 2 ^ 72 ≡ h % 2 ^ 36 * 2 ^ 36 + l
+rest-part : (h l : ℕ) → l < 2 ^ 36 → (h * 2 ^ 36 + l) % 2 ^ 72 ≡ h % 2 ^ 36 * 2 ^ 36 + l
 rest-part h l k = omega arith
 
 pub expansion-whole : (h l : ℕ) → l < 2 ^ 36 → h % 2 ^ 36 + l ≡ 0 → decimal (h / 2 ^ 36) ≡ expansion (h * 2 ^ 36 + l) (2 ^ 72)

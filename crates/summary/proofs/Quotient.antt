@@ -103,7 +103,7 @@ measured-zero b h =
     (record { holds = tt; value = (refl, refl); most = omega arith; least = inl refl })
 
 -- EVERY SHARE OF A COUNT IS MEASURED
-pub measured : (a b : ℕ) → 1 ≤ b → b ≤ 999999 → a ≤ 8 * b → Measured (quotient a b)
+measured : (a b : ℕ) → 1 ≤ b → b ≤ 999999 → a ≤ 8 * b → Measured (quotient a b)
 measured zero b h k m = subst Measured (sym (quotient-round 0 b (omega arith) (omega arith) h)) (measured-zero b h)
 measured (suc a) b h k m =
     subst Measured (sym (quotient-round (suc a) b (omega arith) (omega arith) h))

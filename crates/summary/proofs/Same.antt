@@ -1,7 +1,7 @@
 -- Numbers with the same bits are the same, and what is no number has other bits. Assumes nothing.
-use Prim.Native.Nat.{ℕ, _*_}
+use Prim.Native.Nat.{_*_}
 use mathlib.Core.Path.{_≡_, refl, ap, sym, _∙_, subst}
-use mathlib.Core.Bool.{Bool, true, false, not, Bool·beq, _&&_, _||_, and-eq-true-iff}
+use mathlib.Core.Bool.{Bool, true, false, not, Bool·beq, _&&_, _||_, true≢false, and-eq-true-iff}
 use native.Mathlib.Omega.{arith}
 use lib.Dec.{T, eqb}
 use lib.Ieee.{Float, nan, inf, fin, binary64, up, down, fits, isNan, eq, ne, ofBits, toBits}
@@ -18,9 +18,6 @@ use Rattle.summary.specs.Export.{sameBits, isSummary}
 use Rattle.summary.specs.Building.{Measured}
 use Rattle.summary.proofs.Quotient.{bounds, measured-share}
 
-clash : true ≡ false → ⊥
-clash e = let z : _≡_ {A = ℕ} 0 1 = cc in omega arith
-
 beq-refl : (s : Bool) → Bool·beq s s ≡ true
 beq-refl true = refl
 beq-refl false = refl
@@ -29,15 +26,15 @@ beq-refl false = refl
 pub ne-nan : (x : Float) → ne x x ≡ true → x ≡ nan
 unfolding ne eq
 ne-nan nan e = refl
-ne-nan (inf s) e = absurd (clash (sym (sym (ap not (beq-refl s)) ∙ e)))
+ne-nan (inf s) e = absurd (true≢false (sym (sym (ap not (beq-refl s)) ∙ e)))
 ne-nan (fin s m x) e =
     let a = m * up x * down x in
     let t : (eqb a a && (Bool·beq s s || eqb a 0)) ≡ true = rw (eq-eqb a a refl, beq-refl s) in
-    absurd (clash (sym (sym (ap not t) ∙ e)))
+    absurd (true≢false (sym (sym (ap not t) ∙ e)))
 
 pub eq-number : (x : Float) → ne x x ≡ false → T (not (isNan x))
 unfolding ne eq isNan
-eq-number nan e = absurd (clash e)
+eq-number nan e = absurd (true≢false e)
 eq-number (inf s) e = tt
 eq-number (fin s m x) e = tt
 
@@ -72,12 +69,12 @@ missing-measured c e =
 
 beq-true : (s t : Bool) → Bool·beq s t ≡ true → s ≡ t
 beq-true true true e = refl
-beq-true true false e = absurd (clash (sym e))
-beq-true false true e = absurd (clash (sym e))
+beq-true true false e = absurd (true≢false (sym e))
+beq-true false true e = absurd (true≢false (sym e))
 beq-true false false e = refl
 
--- A RECORD THAT PASSES THE TEST IS THE SUMMARY
-pub summary-same : (s t : Summary) → T (fits binary64 (s .mean)) → T (fits binary64 (s .missing)) → T (fits binary64 (t .mean)) → T (fits binary64 (t .missing))
+-- a record that passes the test is the summary
+summary-same : (s t : Summary) → T (fits binary64 (s .mean)) → T (fits binary64 (s .missing)) → T (fits binary64 (t .mean)) → T (fits binary64 (t .missing))
     → isSummary s t ≡ true → s ≡ t
 unfolding isSummary
 summary-same s t f g h k e =
