@@ -10,6 +10,7 @@ use lib.Dec.{ltb}
 use borrow.Author.Tests.{ltb-true, ltb-false, lt-ltb, le-ltb}
 use Rattle.log.specs.Decimal.{spelled, decimal, numberFrom}
 use Rattle.log.specs.Reader.{isPlain}
+use Rattle.log.proofs.Lists.{cond-with}
 use Rattle.log.proofs.Plain.{plain-append, plain-one}
 
 -- by cases on whether a number has one digit
@@ -50,10 +51,6 @@ unfolding decimal
 decimal-more n h k =
     spelled-more 18 n h ∙ ap (λ (l : List ℕ). l ++ ((48 + n % 10) ∷ [])) (sym (spelled-same 18 (n / 10) (tenth 18 n k)))
 
-spelled-none : (n : ℕ) → spelled 0 n ≡ ((48 + n) ∷ [])
-unfolding spelled
-spelled-none n = refl
-
 spelled-length : (f n : ℕ) → (1 ≤ length (spelled f n)) × (length (spelled f n) ≤ suc f)
 unfolding spelled
 spelled-length zero n = (omega arith, omega arith)
@@ -93,12 +90,17 @@ decimal-value n h = spelled-value 19 n h
 pub decimal-once : (m n : ℕ) → m < 10 ^ 20 → n < 10 ^ 20 → decimal m ≡ decimal n → m ≡ n
 decimal-once m n h k e = sym (decimal-value m h) ∙ ap (numberFrom 0) e ∙ decimal-value n k
 
-spelled-plain : (f n : ℕ) → isPlain (spelled f n) ≡ true
-spelled-plain zero n = rw (spelled-none n) (plain-one (48 + n) (λ e. omega arith))
-spelled-plain (suc f) n =
-    by-ten _ n (λ k. rw (spelled-few (suc f) n k) (plain-one (48 + n) (λ e. omega arith)))
-    (λ k. rw (spelled-more f n k) (plain-append (spelled f (n / 10)) ((48 + n % 10) ∷ []) (spelled-plain f (n / 10)) (plain-one (48 + n % 10) (λ e. omega arith))))
+-- what each digit has, and two texts together
+spelled-with : (P : List ℕ → Type 0) → ((d : ℕ) → P ((48 + d) ∷ [])) → ((a b : List ℕ) → P a → P b → P (a ++ b)) → (f n : ℕ) → P (spelled f n)
+unfolding spelled
+spelled-with P digit both zero n = digit n
+spelled-with P digit both (suc f) n =
+    cond-with P (ltb n 10) (λ e. digit n)
+    (λ e. both (spelled f (n / 10)) ((48 + n % 10) ∷ []) (spelled-with P digit both f (n / 10)) (digit (n % 10)))
+
+pub decimal-with : (P : List ℕ → Type 0) → ((d : ℕ) → P ((48 + d) ∷ [])) → ((a b : List ℕ) → P a → P b → P (a ++ b)) → (n : ℕ) → P (decimal n)
+unfolding decimal
+decimal-with P digit both n = spelled-with P digit both 19 n
 
 pub decimal-plain : (n : ℕ) → isPlain (decimal n) ≡ true
-unfolding decimal
-decimal-plain n = spelled-plain 19 n
+decimal-plain n = decimal-with (λ (l : List ℕ). isPlain l ≡ true) (λ d. plain-one (48 + d) (λ e. omega arith)) plain-append n

@@ -7,4 +7,5 @@ pub mod Limbs
 pub mod Same
 pub mod Exactly
 pub mod Denotes
+pub mod Row
 pub mod Determined

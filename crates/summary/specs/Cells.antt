@@ -1,7 +1,7 @@
--- How the text of a cell is read, from its bytes alone, and when it shows a number. Assumes nothing.
-use Prim.Native.Nat.{ℕ, suc, _^_}
+-- How the text of a cell is read, from its bytes alone, when it shows a number, and where it stands in a row. Assumes nothing.
+use Prim.Native.Nat.{ℕ, zero, suc, _^_}
 use mathlib.Core.Path.{_≡_}
-use mathlib.Core.Bool.{Bool, true, false, _&&_, _||_}
+use mathlib.Core.Bool.{Bool, true, false, not, _&&_, _||_}
 use mathlib.Core.List.{List, [], _∷_, _++_}
 use lib.Dec.{eqb, leb}
 use lib.ListN.{length, getD, take, drop}
@@ -9,8 +9,9 @@ use lib.Ieee.{Float, binary64, round}
 use lib.Ieee.Exact.{HasValue}
 use Rattle.bytes.specs.Bytes.{indexOf}
 use Rattle.log.specs.Decimal.{numberFrom}
-use Rattle.log.specs.Log.{last}
+use Rattle.log.specs.Log.{tab, lineFeed, last}
 use Rattle.summary.specs.declared.Summary.{Summary}
+use Rattle.summary.specs.Report.{ended}
 use Rattle.summary.specs.Export.{cell}
 
 -- what stands before the point (46), or all where there is none
@@ -61,3 +62,19 @@ pub record IsCell (exists : Bool) (x : Float) (text : List ℕ) : Type 0 where
 pub record Cells (summary : Summary) : Type 0 where
   pub mean : IsCell (summary .«mean_exists») (summary .mean) (cell (summary .«mean_exists») (summary .mean))
   pub missing : IsCell (summary .«missing_exists») (summary .missing) (cell (summary .«missing_exists») (summary .missing))
+
+-- neither a tab nor a line feed
+unfoldable pub isField : List ℕ → Bool
+isField [] = true
+isField (b ∷ text) = not (eqb b tab) && not (eqb b lineFeed) && isField text
+
+-- the rest of a row after so many fields, each with a tab behind it
+abbrev pub AfterFields : ℕ → List ℕ → List ℕ → Type 0
+AfterFields zero row rest = row ≡ rest
+AfterFields (suc n) row rest = (field : List ℕ) × (more : List ℕ) × (isField field ≡ true) × (row ≡ ended field tab ++ more) × AfterFields n more rest
+
+-- the two cells are the last two of a row's eleven fields, and a line feed ends it
+pub record InRow (summary : Summary) (row : List ℕ) : Type 0 where
+  pub text : AfterFields 9 row (ended (cell (summary .«mean_exists») (summary .mean)) tab ++ ended (cell (summary .«missing_exists») (summary .missing)) lineFeed)
+  pub mean : isField (cell (summary .«mean_exists») (summary .mean)) ≡ true
+  pub missing : isField (cell (summary .«missing_exists») (summary .missing)) ≡ true
