@@ -1,7 +1,7 @@
 -- Good beginnings: what they count, which line may come next, and the beginning with that line. Assumes nothing.
 use Prim.Native.Nat.{ℕ, _+_, _≤_}
 use mathlib.Core.Path.{_≡_, refl, ap, sym, _∙_}
-use mathlib.Core.Bool.{true, false, _&&_, and-eq-true-iff}
+use mathlib.Core.Bool.{true, false, _&&_, true≢false, and-eq-true-iff}
 use mathlib.Core.List.{List, [], _∷_, _++_, append-assoc}
 use native.Mathlib.Omega.{arith}
 use lib.ListN.{length, length-append}
@@ -70,9 +70,7 @@ next-line (lines n os) line P g f bad =
     f (last line, t .outcome, t .few, same-true line (slotLine (length os + 1) (last line)) (t .text)))
     (λ e.
     bad
-    (λ q.
-    let t : true ≡ false = sym (next-is (length os) (q .0) (q .1) (q .2)) ∙ ap (isNext (length os)) (sym (q .3)) ∙ e in
-    let z : _≡_ {A = ℕ} 0 1 = cc in omega arith)
+    (λ q. true≢false (sym (next-is (length os) (q .0) (q .1) (q .2)) ∙ ap (isNext (length os)) (sym (q .3)) ∙ e))
     (rw (tuned-some n os (good n os g .band), slots-are n os, e)))
 
 pub good-plain : (b : Beginning) (line : List ℕ) → GoodLine b line → isPlain line ≡ true

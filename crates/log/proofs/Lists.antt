@@ -1,7 +1,7 @@
 -- Laws of tests, and of texts that are the same. Assumes nothing.
 use Prim.Native.Nat.{ℕ, suc, _-_, _≤_}
 use mathlib.Core.Path.{_≡_, refl, ap, sym, _∙_}
-use mathlib.Core.Bool.{Bool, true, false, cond, _&&_, and-eq-true-iff, and-true, and-false, and-assoc}
+use mathlib.Core.Bool.{Bool, true, false, cond, _&&_, false≢true, and-eq-true-iff, and-true, and-false, and-assoc}
 use mathlib.Core.List.{List, [], _∷_, _++_}
 use native.Mathlib.Omega.{arith}
 use lib.ListN.{length, getD, take, drop, length-drop}
@@ -62,8 +62,8 @@ tail-part n l h = take-all (length l - n) (drop n l) (rw length-drop (omega arit
 
 pub same-true : (a b : List ℕ) → sameAs a b ≡ true → a ≡ b
 same-true [] [] e = refl
-same-true [] (y ∷ b) e = let z : _≡_ {A = ℕ} 0 1 = cc in absurd (omega arith)
-same-true (x ∷ a) [] e = let z : _≡_ {A = ℕ} 0 1 = cc in absurd (omega arith)
+same-true [] (y ∷ b) e = absurd (false≢true e)
+same-true (x ∷ a) [] e = absurd (false≢true e)
 same-true (x ∷ a) (y ∷ b) e =
     let r = and-eq-true-iff (eqb x y) (sameAs a b) .0 e in
     let p = eqb-true x y (r .0) in

@@ -1,7 +1,7 @@
 -- One slot more keeps counts sound, and every good line does. Assumes nothing.
 use Prim.Native.Nat.{ℕ, suc, zero, _+_, _-_, _*_, _<_, _≤_}
 use mathlib.Core.Path.{_≡_, refl, ap, sym, _∙_, subst}
-use mathlib.Core.Bool.{true, false, cond, _&&_, and-eq-true-iff}
+use mathlib.Core.Bool.{true, false, cond, _&&_, true≢false, and-eq-true-iff}
 use mathlib.Core.List.{List, [], _∷_}
 use native.Mathlib.Omega.{arith}
 use lib.ListN.{length}
@@ -153,7 +153,5 @@ pub next-long : (slots : ℕ) (line : List ℕ) → isNext slots line ≡ true �
 next-long n [] e =
     let f : sameAs [] (slotLine (n + 1) 0) ≡ false = slot-short [] (n + 1) 0 (omega arith) in
     let t : sameAs [] (slotLine (n + 1) 0) ≡ true = next n [] e .text in
-    let b : true ≡ false = sym t ∙ f in
-    let z : _≡_ {A = ℕ} 0 1 = cc in
-    absurd (omega arith)
+    absurd (true≢false (sym t ∙ f))
 next-long n (x ∷ l) e = omega arith

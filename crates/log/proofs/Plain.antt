@@ -1,7 +1,7 @@
 -- Laws of bytes without a line feed. Assumes nothing.
 use Prim.Native.Nat.{ℕ, suc, _+_, _≤_}
 use mathlib.Core.Path.{_≡_, refl, ap, sym, _∙_, subst}
-use mathlib.Core.Bool.{Bool, true, false, not, _&&_, and-eq-true-iff}
+use mathlib.Core.Bool.{Bool, true, false, not, _&&_, false≢true, and-eq-true-iff}
 use mathlib.Core.List.{List, [], _∷_, _++_, append-assoc, append-nil}
 use native.Mathlib.Omega.{arith}
 use lib.ListN.{length, getD, take, drop}
@@ -44,7 +44,7 @@ lines-with P f g l = from l [] plain-none
         (λ e. subst P (append-assoc held (x ∷ []) l) (from l (held ++ (x ∷ [])) (plain-append held (x ∷ []) p (plain-one x (eqb-false x 10 e)))))
 
 pub not-plain : (a b : List ℕ) → isPlain (a ++ (10 ∷ b)) ≡ true → ⊥
-not-plain [] b p = let h = plain-tail 10 b p .0 in let z : _≡_ {A = ℕ} 0 1 = cc in omega arith
+not-plain [] b p = false≢true (plain-tail 10 b p .0)
 not-plain (x ∷ a) b p = not-plain a b (plain-tail x (a ++ (10 ∷ b)) p .1)
 
 -- the bytes before the first line feed, and those after it

@@ -1,7 +1,7 @@
 -- The machine over bytes: a line that is held, a line that is whole, and the rule that every step keeps. Assumes nothing.
 use Prim.Native.Nat.{ℕ, suc, _+_, _<_, _≤_}
 use mathlib.Core.Path.{_≡_, refl, ap, sym, _∙_, subst}
-use mathlib.Core.Bool.{true, false, _&&_, and-eq-true-iff}
+use mathlib.Core.Bool.{true, false, _&&_, false≢true, and-eq-true-iff}
 use mathlib.Core.List.{List, [], _∷_, _++_, append-assoc, append-nil}
 use native.Mathlib.Numerals.{add-one}
 use native.Mathlib.Omega.{arith}
@@ -124,15 +124,15 @@ held-ruled c l b p h =
 pub small : (p : Phase) (n : ℕ) → isHolding p n ≡ true → n ≤ 63
 small Open n h = leb-true n 63 h
 small Refused n h = omega (arith, eqb-true n 0 h)
-small Ended n h = let z : _≡_ {A = ℕ} 0 1 = cc in absurd (omega arith)
+small Ended n h = absurd (false≢true h)
 
 pub reader-small : (s : Reader) → isReader s ≡ true → s .length ≤ 63
 reader-small s e = small (s .phase) (s .length) (ruled s e .holding)
 
 opened : (p : Phase) → isOpen p ≡ true → p ≡ Open
 opened Open e = refl
-opened Refused e = let z : _≡_ {A = ℕ} 0 1 = cc in absurd (omega arith)
-opened Ended e = let z : _≡_ {A = ℕ} 0 1 = cc in absurd (omega arith)
+opened Refused e = absurd (false≢true e)
+opened Ended e = absurd (false≢true e)
 
 -- an open reader is one that holds a line
 pub open-held : (s : Reader) → isReader s ≡ true → length (s .held) ≡ 63 → isOpen (s .phase) ≡ true → s ≡ heldOf (s .counts) (lineOf s)

@@ -1,7 +1,7 @@
 -- A log that is written line by line from outcomes leads the machine to their counts. Assumes nothing.
 use Prim.Native.Nat.{ℕ, suc, zero, _+_, _-_, _<_, _≤_}
 use mathlib.Core.Path.{_≡_, refl, ap, sym, _∙_}
-use mathlib.Core.Bool.{true, false, and-eq-true-iff}
+use mathlib.Core.Bool.{true, false, true≢false, and-eq-true-iff}
 use mathlib.Core.List.{List, [], _∷_, _++_}
 use native.Mathlib.Omega.{arith}
 use lib.ListN.{length, getD, drop, length-append}
@@ -37,9 +37,7 @@ not-last k n h e =
     (λ f.
     let i : n ≡ suc k = omega (arith, leb-false n k f) in
     let t : sameAs (firstLine n) (firstLine (suc k)) ≡ true = ap (λ (j : ℕ). sameAs (firstLine n) (firstLine j)) (sym i) ∙ same-refl (firstLine n) in
-    let b : true ≡ false = sym t ∙ e in
-    let z : _≡_ {A = ℕ} 0 1 = cc in
-    absurd (omega arith))
+    absurd (true≢false (sym t ∙ e)))
 
 -- a channel's first line is that channel's
 pub channel-found : (k n : ℕ) → 1 ≤ n → n ≤ k → k ≤ 204 → channelUpTo k (firstLine n) ≡ n
