@@ -1,6 +1,6 @@
 -- THE EXAMPLES MARKED P HOLD, all of them, of every outcome that the promises allow. Assumes nothing.
 use mathlib.Core.Path.{_≡_, refl, sym, ap, _∙_, subst}
-use mathlib.Core.Bool.{Bool, true, false, _&&_, false≢true}
+use mathlib.Core.Bool.{Bool, true, false, not, _&&_, _||_, false≢true}
 use mathlib.Core.List.{List, [], _∷_, _++_}
 use mathlib.Core.Logic.{inl, inr}
 use Prim.Native.Nat.{ℕ, zero, suc, _+_, _*_, _≤_}
@@ -130,12 +130,46 @@ left ones received c =
     ∙ ones-left 272 (rowOf received) (rowOf generatorBlock) (length-rowOf received ∙ ap (λ (n : ℕ). 8 * n) (c .long)) (length-rowOf generatorBlock) (c .within)
     ∙ p4-generator .1
 
-clearedWord-holds : (ones count : ℕ) → ones + count ≡ 18 → count ≤ 8 → Holds (clearedWord ones (zeros 34) count)
-clearedWord-holds ones count whole near received c =
-    word-holds received (zeros 34) count (c .long) refl (bytes (zeros 34) tt) zero-code (omega (arith, left ones received c)) near
+-- each one of the row is one of the whole, by one computed test
+abbrev covers : (whole row : List Bool) → Bool
+covers whole [] = true
+covers [] (r ∷ row) = not r && covers [] row
+covers (w ∷ whole) (r ∷ row) = (w || not r) && covers whole row
 
-clearedNoWord-holds : (ones : ℕ) → ones + 9 ≡ 18 → Holds (clearedNoWord ones)
-clearedNoWord-holds ones whole received c = noWord-holds received (zeros 34) (c .long) zero-code (omega (arith, left ones received c))
+covered : (whole row : List Bool) → T (covers whole row) → (p : ℕ) → getD row p false ≡ true → getD whole p false ≡ true
+covered whole [] t p e = absurd (false≢true e)
+covered [] (true ∷ row) t p e = absurd t
+covered [] (false ∷ row) t zero e = absurd (false≢true e)
+covered [] (false ∷ row) t (suc p) e = covered [] row t p e
+covered (true ∷ whole) (true ∷ row) t zero e = refl
+covered (false ∷ whole) (true ∷ row) t zero e = absurd t
+covered (w ∷ whole) (false ∷ row) t zero e = absurd (false≢true e)
+covered (w ∷ whole) (r ∷ row) t (suc p) e = covered whole row (and-r (w || not r) (covers whole row) t) p e
+
+cleared : (ones : ℕ) (received : List ℕ) → length received ≡ 34 → distance (rowOf received) (rowOf generatorBlock) ≡ ones
+    → T (covers (rowOf generatorBlock) (rowOf received)) → Cleared ones received
+cleared ones received long away t = record { long = long; differs = away; within = covered (rowOf generatorBlock) (rowOf received) t }
+
+-- the generator's last bytes, which have eight of its ones, and nine
+abbrev eightLeft : List ℕ
+eightLeft = zeros 29 ++ (40 ∷ 128 ∷ 34 ∷ 32 ∷ 136 ∷ [])
+
+abbrev nineLeft : List ℕ
+nineLeft = zeros 28 ++ (128 ∷ 40 ∷ 128 ∷ 34 ∷ 32 ∷ 136 ∷ [])
+
+p5 : Holds (clearedWord 10 (zeros 34) 8)
+unfolding rowOf bitOf
+p5 = (
+  (eightLeft, cleared 10 eightLeft refl refl tt),
+  λ received c. word-holds received (zeros 34) 8 (c .long) refl (bytes (zeros 34) tt) zero-code (omega (arith, left 10 received c)) (lit≤ tt),
+)
+
+p5-nine : Holds (clearedNoWord 9)
+unfolding rowOf bitOf
+p5-nine = (
+  (nineLeft, cleared 9 nineLeft refl refl tt),
+  λ received c. noWord-holds received (zeros 34) (c .long) zero-code (omega (arith, left 9 received c)),
+)
 
 -- with a right state and a right length the header decides
 module _ (c : Channel) (first second : ℕ) (twenty : List ℕ) where
@@ -193,6 +227,6 @@ a and b = (a, b)
 
 pub claim : AllHold table
 claim =
-    p1 and p2 and p3 and p4-generator and p4 and p4-read and clearedWord-holds _ _ refl (lit≤ tt) and clearedNoWord-holds _ refl and p6 and p7 and p8
+    p1 and p2 and p3 and p4-generator and p4 and p4-read and p5 and p5-nine and p6 and p7 and p8
     and p9-first and p9-last and p10 and short-holds _ _ (lit≤ tt) refl and short-holds _ _ (lit≤ tt) refl and extended-holds _ _ (lit≤ tt) refl
     and short-holds _ _ (lit≤ tt) refl and extended-holds _ _ (lit≤ tt) refl and tt

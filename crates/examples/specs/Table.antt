@@ -33,9 +33,10 @@ pub data Example : Type 0 where
   generatorLast : (block : List ℕ) (ones : ℕ) → Example
   -- the block reader answers 3 with this count
   wrongCheck : (received : List ℕ) (count : ℕ) → Example
-  -- the generator with so many of its ones cleared, whichever: the corrector answers with this word and this count
+  -- the generator with so many of its ones cleared, and there is such a block: whichever they are, the corrector answers with this
+  -- word and this count
   clearedWord : (ones : ℕ) (corrected : List ℕ) (count : ℕ) → Example
-  -- the generator with so many of its ones cleared, whichever: the corrector answers 2
+  -- the same with so many cleared: the corrector answers 2
   clearedNoWord : (ones : ℕ) → Example
   -- this header holds, with LF set: with any twenty data bytes it takes a fresh channel (answer 8) from waiting to ready,
   -- expecting this SC
@@ -108,8 +109,9 @@ Holds (generatorLast block ones) =
 Holds (wrongCheck received count) =
     (before after : List ℕ) (answer : Answer) (n : ℕ) → length before ≡ 22 → Reads received before after answer n
     → (paper answer ≡ refused 3) × (after ≡ before) × (n ≡ count)
-Holds (clearedWord ones corrected count) = (received : List ℕ) → Cleared ones received → GivesWord received corrected count
-Holds (clearedNoWord ones) = (received : List ℕ) → Cleared ones received → GivesNoWord received
+Holds (clearedWord ones corrected count) =
+    ((received : List ℕ) × Cleared ones received) × ((received : List ℕ) → Cleared ones received → GivesWord received corrected count)
+Holds (clearedNoWord ones) = ((received : List ℕ) × Cleared ones received) × ((received : List ℕ) → Cleared ones received → GivesNoWord received)
 Holds (headerHolds first second expected) =
     (twenty : List ℕ) (r : Stepped) → length twenty ≡ 20 → channel.paper r ≡ stepOf fresh (first ∷ second ∷ twenty)
     → channel.paper r ≡ leaves (channel.refused 8) (channelOf (zeros 260) 0 Ready expected)
