@@ -77,8 +77,8 @@ countsFrom counts (outcome ∷ outcomes) = countsFrom (counted counts outcome) o
 abbrev pub tuned : ℕ → Counts
 tuned channel = record { channel = channel; slots = 0; read = 0; clean = 0; bits = 0; noword = 0; check = 0; missing = 0 }
 
--- The counts that some accepted log gives: the slots are at most 999,999, each slot has one outcome, clean ones are among those read,
--- and each other that was read has 1 to 8 bits.
+-- Counts that agree with each other: the slots are at most 999,999, each slot has one outcome, clean ones are among those read, and each
+-- other that was read has 1 to 8 bits.
 unfoldable pub isSound : Counts → Bool
 isSound counts =
     leb (counts .slots) 999999
@@ -87,6 +87,7 @@ isSound counts =
     && leb (counts .read - counts .clean) (counts .bits)
     && leb (counts .bits) (8 * (counts .read - counts .clean))
 
+-- the counts that some accepted log gives
 unfoldable pub isCounts : Counts → Bool
 isCounts counts = isChannel (counts .channel) && isSound counts
 

@@ -1,4 +1,4 @@
--- What the private functions of src/text.rt owe: a text is built byte by byte, and what is past its room is left off. No public
+-- What the private functions owe each other: a text is built byte by byte, and what is past its room is left off. No public
 -- promise cites this file. Assumes nothing.
 use Prim.Native.Nat.{ℕ, _-_, _*_, _^_, _<_, _≤_}
 use mathlib.Core.Path.{_≡_}

@@ -1,5 +1,5 @@
 -- NO TWO OUTCOMES MEET A PROMISE of this crate's public functions. Assumes nothing.
-use Prim.Native.Nat.{ℕ, _/_, _%_}
+use Prim.Native.Nat.{ℕ, _/_, _%_, _≤_}
 use mathlib.Core.Path.{_≡_, sym, ap, _∙_}
 use mathlib.Core.Bool.{Bool}
 use mathlib.Core.List.{List}
@@ -7,7 +7,7 @@ use lib.ListN.{length}
 use Rattle.text.specs.declared.hexadecimal.Bytes.{Bytes}
 use Rattle.text.specs.declared.numbers.Number.{Number}
 use Rattle.text.specs.Fields.{sameAs, tabs, fieldOf}
-use Rattle.text.specs.Hexadecimal.{readOf, leftOf, spelled}
+use Rattle.text.specs.Hexadecimal.{readOf, leftOf, countOf, spelled}
 use Rattle.text.specs.Numbers.{numberOf}
 
 -- `same`
@@ -24,8 +24,8 @@ field-once line index r s p q = p ∙ sym q
 
 -- `read_bytes`: what it returns, and the output
 pub read-bytes-once : (digits output : List ℕ) (r s : Bytes) (x y : List ℕ) → r ≡ readOf digits (length output) → x ≡ leftOf r digits output
-    → s ≡ readOf digits (length output) → y ≡ leftOf s digits output → (r ≡ s) × (x ≡ y)
-read-bytes-once digits output r s x y p left q right =
+    → countOf r ≤ length x → s ≡ readOf digits (length output) → y ≡ leftOf s digits output → countOf s ≤ length y → (r ≡ s) × (x ≡ y)
+read-bytes-once digits output r s x y p left few q right fewer =
     let e = p ∙ sym q in
     (e, left ∙ ap (λ (b : Bytes). leftOf b digits output) e ∙ sym right)
 
