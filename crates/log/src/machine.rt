@@ -1,4 +1,5 @@
-// The machine over bytes. It holds a line that is cut; a slot's line that lies whole in the piece is read where it stands.
+// The machine over bytes. It holds a line that is cut; a slot's line that lies whole in the piece, where nine bytes or more are left of
+// it, is read where it stands.
 ghost use mathlib.Core.Path.{_≡_};
 ghost use mathlib.Core.Bool.{true, not};
 ghost use Prim.Native.Nat.{_≤_, _<_};
