@@ -4,6 +4,7 @@ use mathlib.Core.Path.{_≡_, refl, ap, sym, _∙_}
 use mathlib.Core.Bool.{Bool, true, false, cond, _&&_, false≢true, and-eq-true-iff, and-true, and-false, and-assoc}
 use mathlib.Core.List.{List, [], _∷_, _++_}
 use native.Mathlib.Omega.{arith}
+use mir.Val.{boolByte}
 use lib.ListN.{length, getD, take, drop, length-drop}
 use lib.Seq.{take-suc, take-all}
 use lib.Dec.{eqb}
@@ -17,6 +18,11 @@ cond-with P false f g = g refl
 pub by-cases {ℓ} : (P : Type ℓ) (t : Bool) → (t ≡ true → P) → (t ≡ false → P) → P
 by-cases P true f g = f refl
 by-cases P false f g = g refl
+
+-- a test as a number
+pub byte-small : (b : Bool) → boolByte b ≤ 1
+byte-small true = omega arith
+byte-small false = omega arith
 
 pub same-none : (a : List ℕ) (x : ℕ) → sameAs [] (a ++ (x ∷ [])) ≡ false
 same-none [] x = refl

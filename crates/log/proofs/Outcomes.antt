@@ -1,9 +1,10 @@
 -- One slot more keeps counts sound, and every good line does. Assumes nothing.
 use Prim.Native.Nat.{ℕ, suc, zero, _+_, _-_, _*_, _<_, _≤_}
 use mathlib.Core.Path.{_≡_, refl, ap, sym, _∙_, subst}
-use mathlib.Core.Bool.{true, false, cond, _&&_, true≢false, and-eq-true-iff}
+use mathlib.Core.Bool.{true, false, cond, not, _&&_, true≢false, and-eq-true-iff}
 use mathlib.Core.List.{List, [], _∷_}
 use native.Mathlib.Omega.{arith}
+use mir.Val.{boolByte}
 use lib.ListN.{length}
 use lib.Dec.{eqb, ltb}
 use borrow.Author.Tests.{le-leb, eqb-true, ltb-true, ne-eqb}
@@ -12,7 +13,7 @@ use Rattle.band.specs.Band.{isChannel}
 use Rattle.band.proofs.Laws.{within}
 use Rattle.log.specs.declared.Counts.{Counts}
 use Rattle.log.specs.Log.{isCorrected, isOutcome, one, counted, tuned, isSound, channelUpTo, firstLine, slotLine, last, isNext, judged}
-use Rattle.log.specs.Reader.{isBefore}
+use Rattle.log.specs.Reader.{lineNumber, isBefore}
 use Rattle.log.proofs.Lists.{cond-with, by-cases}
 use Rattle.log.proofs.Sound.{Sound, sound, sound-is}
 use Rattle.log.proofs.Lines.{slot-short}
@@ -129,6 +130,17 @@ tuned-before (suc n) h = rw (ne-eqb (suc n) 0 (λ e. omega arith), le-leb 1 (suc
 pub before-sound : (c : Counts) → isBefore c ≡ true → isSound c ≡ true
 unfolding isBefore
 before-sound c e = and-eq-true-iff (isSound c) (cond (eqb (c .channel) 0) (eqb (c .slots) 0) (isChannel (c .channel))) .0 e .0
+
+-- before the first line there are no slots
+pub before-line : (c : Counts) → isBefore c ≡ true → c .slots + 1 + boolByte (not (eqb (c .channel) 0)) ≡ lineNumber c
+unfolding isBefore
+before-line c e =
+    let a = and-eq-true-iff (isSound c) (cond (eqb (c .channel) 0) (eqb (c .slots) 0) (isChannel (c .channel))) .0 e in
+    by-cases _ (eqb (c .channel) 0)
+    (λ z.
+    let n : eqb (c .slots) 0 ≡ true = rw z at (a .1) in
+    rw (z, eqb-true (c .slots) 0 n))
+    (λ z. rw z (omega arith))
 
 counted-before : (c : Counts) (o : ℕ) → isOutcome o ≡ true → c .slots < 999999 → eqb (c .channel) 0 ≡ false → isBefore c ≡ true
     → isBefore (counted c o) ≡ true

@@ -1,7 +1,7 @@
 -- The machine over bytes: a line that is held, a line that is whole, and the rule that every step keeps. Assumes nothing.
 use Prim.Native.Nat.{ℕ, suc, _+_, _<_, _≤_}
 use mathlib.Core.Path.{_≡_, refl, ap, sym, _∙_, subst}
-use mathlib.Core.Bool.{true, false, _&&_, false≢true, and-eq-true-iff}
+use mathlib.Core.Bool.{Bool, true, false, cond, not, _&&_, _||_, false≢true, and-eq-true-iff}
 use mathlib.Core.List.{List, [], _∷_, _++_, append-assoc, append-nil}
 use native.Mathlib.Numerals.{add-one}
 use native.Mathlib.Omega.{arith}
@@ -10,12 +10,13 @@ use lib.Seq.{drop-cons, take-append-seam, set-append-seam, drop-append-seam, len
 use lib.Dec.{eqb, ltb}
 use borrow.Author.Tests.{lt-ltb, leb-true, le-leb, eqb-true, eqb-false, ltb-true, not-true}
 use Rattle.text.specs.Fields.{sameAs}
+use Rattle.answers.specs.Rules.{unless}
 use Rattle.log.specs.declared.Counts.{Counts}
 use Rattle.log.specs.declared.Reader.{Reader}
 use Rattle.log.specs.declared.Phase.{Phase}
 use Rattle.log.specs.declared.Phase.the-variants.{Open, Refused, Ended}
 use Rattle.log.specs.Log.{isSound, judged}
-use Rattle.log.specs.Reader.{between, fresh, lineOf, afterLine, openStep, isOpen, stepOf, run, isPlain, isHeld, isHolding, isBefore, isReader}
+use Rattle.log.specs.Reader.{ToldFed, between, fresh, lineOf, afterLine, openStep, isOpen, stepOf, run, badLine, fine, fedAt, endedAt, isPlain, isHeld, isHolding, isBefore, isReader}
 use Rattle.log.proofs.Lists.{cond-with, by-cases, same-refl, same-true}
 use Rattle.log.proofs.Plain.{plain-none, plain-append, plain-one, plain-tail}
 use Rattle.log.proofs.Outcomes.{judged-before}
@@ -208,3 +209,37 @@ run-kept s (b ∷ bs) k = run-kept (stepOf s b) bs (step-kept s b k)
 pub fresh-kept : Kept fresh
 unfolding isReader isHeld isPlain isBefore isSound
 fresh-kept = (refl, refl)
+
+-- ---- what is told
+
+shut : (p : Phase) (n : ℕ) → isOpen p ≡ false → isHolding p n ≡ true → (p ≡ Refused) × (n ≡ 0)
+shut Open n o h = absurd (false≢true (sym o))
+shut Refused n o h = (refl, eqb-true n 0 h)
+shut Ended n o h = absurd (false≢true h)
+
+-- a refused reader holds nothing
+refused-between : (s : Reader) → Kept s → isOpen (s .phase) ≡ false → s ≡ between Refused (s .counts)
+refused-between s k o =
+    let r = ruled s (k .0) in
+    let e = shut (s .phase) (s .length) o (r .holding) in
+    same-reader s (between Refused (s .counts)) (e .0) refl (subst (λ (n : ℕ). drop n (s .held) ≡ drop n zeros) (e .1) (r .clear)) (e .1)
+
+-- after a piece
+pub fed-refused : (s : Reader) → Kept s → isOpen (s .phase) ≡ false → fedAt (s .phase) s ≡ badLine (between Refused (s .counts))
+fed-refused s k o = ap (λ (t : Reader). fedAt (t .phase) t) (refused-between s k o)
+
+pub fed-open : (s : Reader) → isOpen (s .phase) ≡ true → fedAt (s .phase) s ≡ fine s
+fed-open s o = ap (λ (p : Phase). fedAt p s) (opened (s .phase) o)
+
+either : (a b : Bool) (x y : ToldFed) → unless (not a) x (unless b x y) ≡ cond (a || not b) x y
+either true b x y = refl
+either false true x y = refl
+either false false x y = refl
+
+-- and at the end, of a refused reader as of one that has not ended well
+pub ended : (s : Reader) → Kept s
+    → endedAt (s .phase) s ≡ cond (not (isOpen (s .phase)) || eqb (s .counts .channel) 0 || not (eqb (s .length) 0)) (badLine (between Refused (s .counts))) (fine (between Ended (s .counts)))
+ended s k =
+    by-cases _ (isOpen (s .phase))
+    (λ o. rw o (ap (λ (p : Phase). endedAt p s) (opened (s .phase) o) ∙ either (eqb (s .counts .channel) 0) (eqb (s .length) 0) _ _))
+    (λ o. rw o (ap (λ (t : Reader). endedAt (t .phase) t) (refused-between s k o)))

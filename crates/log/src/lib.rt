@@ -8,8 +8,7 @@ mod slot;
 
 pub use count::is_counts;
 ghost use mathlib.Core.Path.{_≡_};
-ghost use Rattle.log.specs.Log.{isSound};
-ghost use Rattle.log.specs.Reader.{told, toldFed, fresh, lineNumber, fedAt, endedAt, readOf, fedOf, endOf};
+ghost use Rattle.log.specs.Reader.{told, toldFed, fresh, between, badLine, noReader, endedAt, isBefore, isReader, readOf, fedOf, endOf};
 ghost use mathlib.Core.Bool.{true};
 use answers::Answer;
 use answers::Refusal;
@@ -90,10 +89,20 @@ pub fn start() -> Reader
 pub fn feed(reader: Reader, piece: &[u8]) -> Fed
     ensures { λ r. ⌜ toldFed r ≡ fedOf reader (now (piece .entry)) ⌝ }
 {
-    if rule::is_reader(reader) {
-        return after_piece(machine::run(reader, piece));
+    if !rule::is_reader(reader) {
+        return no_reader(reader);
     }
-    no_reader(reader)
+    let after = machine::run(reader, piece);
+    let phase = after.phase;
+    let counts = after.counts;
+    if machine::is_refused(phase) {
+        return bad_line(counts);
+    }
+    Fed {
+        answer: Answer::Accepted,
+        line: 0,
+        reader: after,
+    }
 }
 
 // Takes the end of a log. Refused: 11 for a reader that has ended or is outside its rule, which stays as it is; 12 where a line was
@@ -108,7 +117,7 @@ pub fn end(reader: Reader) -> Fed
 }
 
 fn no_reader(reader: Reader) -> Fed
-    ensures { λ r. ⌜ r ≡ record { answer = Answer.Refused Refusal.OutsideRule; line = 0; reader = reader } ⌝ }
+    ensures { λ r. ⌜ toldFed r ≡ noReader reader ⌝ }
 {
     Fed {
         answer: Answer::Refused(Refusal::OutsideRule),
@@ -117,63 +126,30 @@ fn no_reader(reader: Reader) -> Fed
     }
 }
 
-fn fine(reader: Reader) -> Fed
-    ensures { λ r. ⌜ r ≡ record { answer = Answer.Accepted; line = 0; reader = reader } ⌝ }
-{
-    Fed {
-        answer: Answer::Accepted,
-        line: 0,
-        reader,
-    }
-}
-
-fn bad_line(reader: Reader) -> Fed
-    requires { ⌜ isSound (reader .counts) ≡ true ⌝ }
-    ensures { λ r. ⌜ r ≡ record { answer = Answer.Refused Refusal.BadLine; line = lineNumber (reader .counts); reader = reader } ⌝ }
-{
-    Fed {
-        answer: Answer::Refused(Refusal::BadLine),
-        line: line_number(reader.counts),
-        reader,
-    }
-}
-
-fn line_number(counts: Counts) -> u32
-    requires { ⌜ isSound counts ≡ true ⌝ }
-    ensures { λ r. ⌜ r ≡ lineNumber counts ⌝ }
-{
-    if counts.channel == 0 {
-        return 1;
-    }
-    counts.slots + 2
-}
-
-fn after_piece(reader: Reader) -> Fed
-    requires { ⌜ isSound (reader .counts) ≡ true ⌝ }
-    ensures { λ r. ⌜ toldFed r ≡ fedAt (reader .phase) reader ⌝ }
-{
-    let phase = reader.phase;
-    match phase {
-        Phase::Open => fine(reader),
-        Phase::Refused => bad_line(reader),
-        Phase::Ended => fine(reader),
-    }
-}
-
 fn after_end(reader: Reader) -> Fed
-    requires { ⌜ isSound (reader .counts) ≡ true ⌝ }
+    requires { ⌜ isReader reader ≡ true ⌝ }
     ensures { λ r. ⌜ toldFed r ≡ endedAt (reader .phase) reader ⌝ }
 {
     let phase = reader.phase;
     let counts = reader.counts;
-    match phase {
-        Phase::Open => {
-            if (counts.channel == 0) | (reader.length != 0) {
-                return bad_line(machine::between_lines(Phase::Refused, counts));
-            }
-            fine(machine::between_lines(Phase::Ended, counts))
-        }
-        Phase::Refused => bad_line(reader),
-        Phase::Ended => fine(reader),
+    if machine::is_refused(phase) | (counts.channel == 0) | (reader.length != 0) {
+        return bad_line(counts);
+    }
+    Fed {
+        answer: Answer::Accepted,
+        line: 0,
+        reader: machine::between_lines(Phase::Ended, counts),
+    }
+}
+
+// Refuses the line after these counts. Before it stand the first line, where there is a channel, and a line a slot.
+fn bad_line(counts: Counts) -> Fed
+    requires { ⌜ isBefore counts ≡ true ⌝ }
+    ensures { λ r. ⌜ toldFed r ≡ badLine (between (Phase.Refused) counts) ⌝ }
+{
+    Fed {
+        answer: Answer::Refused(Refusal::BadLine),
+        line: counts.slots + 1 + (counts.channel != 0) as u32,
+        reader: machine::between_lines(Phase::Refused, counts),
     }
 }

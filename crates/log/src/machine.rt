@@ -89,7 +89,7 @@ fn take_turn(reader: Reader, piece: &[u8], from: usize) -> Turn
     }
 }
 
-fn is_refused(phase: Phase) -> bool
+pub(crate) fn is_refused(phase: Phase) -> bool
     ensures { λ r. ⌜ r ≡ not (isOpen phase) ⌝ }
 {
     match phase {

@@ -1,7 +1,5 @@
-use Rattle.log.proofs.Runs.{ruled}
-use Rattle.log.proofs.Outcomes.{before-sound}
-use Rattle.log.specs.Reader.{toldFed, endOf}
-use mathlib.Core.Path.{sym, _∙_, ap}
+use Rattle.log.specs.Reader.{endOf}
+use mathlib.Core.Path.{sym, _∙_}
 use borrow.Author.Needs.{needs}
 use Rattle.log.proofs.end.Statement.{statement}
 use Rattle.log.proofs.end.Tie as tie
@@ -10,7 +8,7 @@ is-reader-requires : tie.Need-is-reader-requires
 is-reader-requires c κs = search needs
 
 after-end-requires : tie.Need-after-end-requires
-after-end-requires c κs = before-sound _ (ruled _ (sym (c .before .is-reader .ensures) ∙ c .if1 .taken) .before)
+after-end-requires c κs = sym (c .before .is-reader .ensures) ∙ c .if1 .taken
 
 returns : tie.Need-returns
 unfolding endOf
@@ -21,7 +19,7 @@ no-reader-requires c κs = search needs
 
 returns-2 : tie.Need-returns-2
 unfolding endOf
-returns-2 c = ap toldFed (c .no-reader .ensures) ∙ sym (rw (sym (c .before .before .is-reader .ensures) ∙ c .before .if1 .left))
+returns-2 c = c .no-reader .ensures ∙ sym (rw (sym (c .before .before .is-reader .ensures) ∙ c .before .if1 .left))
 
 pub end-spec : {M : Type 1} → statement M
 end-spec =

@@ -1,6 +1,5 @@
 use denote.Ref.{now}
-use Rattle.log.proofs.Runs.{ruled, run-kept, fresh-kept}
-use Rattle.log.proofs.Outcomes.{before-sound}
+use Rattle.log.proofs.Runs.{run-kept, fresh-kept}
 use Rattle.log.specs.Reader.{run, endedAt, wholeOf, readOf}
 use Rattle.log.specs.declared.Reader.{Reader}
 use mathlib.Core.Path.{_∙_, ap}
@@ -15,7 +14,7 @@ run-requires : tie.Need-run-requires
 run-requires c κs = rw (c .start .ensures) (fresh-kept .0)
 
 after-end-requires : tie.Need-after-end-requires
-after-end-requires c κs = rw (c .run .ensures, c .before .start .ensures) (before-sound _ (ruled _ (run-kept _ _ fresh-kept .0) .before))
+after-end-requires c κs = rw (c .run .ensures, c .before .start .ensures) (run-kept _ _ fresh-kept .0)
 
 returns : tie.Need-returns
 unfolding readOf

@@ -4,6 +4,7 @@ use mathlib.Core.Bool.{Bool, true, false}
 use mathlib.Core.Path.{_≡_, refl}
 use mir.Val.{boolByte}
 use Rattle.log.specs.Log.{isCorrected, one, counted}
+use Rattle.log.proofs.Lists.{byte-small}
 use Rattle.log.proofs.Sound.{sound}
 use lib.Dec.{eqb}
 use native.Mathlib.Omega.{arith}
@@ -19,13 +20,9 @@ byte-one : (b : Bool) → boolByte b ≡ one b
 byte-one true = refl
 byte-one false = refl
 
-small : (b : Bool) → boolByte b ≤ 1
-small true = omega arith
-small false = omega arith
-
 tests : (c : tie.Start) → let o = c .args .outcome in
     (boolByte (eqb o 48) ≤ 1) × (boolByte (eqb o 110) ≤ 1) × (boolByte (eqb o 99) ≤ 1) × (boolByte (eqb o 45) ≤ 1)
-tests c = let o = c .args .outcome in (small (eqb o 48), small (eqb o 110), small (eqb o 99), small (eqb o 45))
+tests c = let o = c .args .outcome in (byte-small (eqb o 48), byte-small (eqb o 110), byte-small (eqb o 99), byte-small (eqb o 45))
 
 add-t3 : tie.Need-add-t3
 add-t3 c = search needs
@@ -37,7 +34,7 @@ cast-t5 : tie.Need-cast-t5
 cast-t5 c = search needs
 
 add-t6 : tie.Need-add-t6
-add-t6 c = omega (arith, bounds (c .before .before .before), small (c .before .is-corrected .result))
+add-t6 c = omega (arith, bounds (c .before .before .before), byte-small (c .before .is-corrected .result))
 
 cast-t8 : tie.Need-cast-t8
 cast-t8 c = search needs
