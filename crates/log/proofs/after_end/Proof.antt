@@ -8,7 +8,7 @@ use Rattle.log.proofs.after_end.Statement.{statement}
 use Rattle.log.proofs.after_end.Tie as tie
 
 is-refused-requires : tie.Need-is-refused-requires
-is-refused-requires c κs = search needs
+is-refused-requires c κs = tt
 
 bad-line-requires : tie.Need-bad-line-requires
 bad-line-requires c κs = ruled _ (c .before .before .before .before .before .pre) .before
@@ -20,7 +20,7 @@ returns c =
     c .bad-line .ensures ∙ sym (ended (a .args .reader) (a .pre, f) ∙ rw (sym (c .before .before .before .before .is-refused .ensures), c .before .if1 .taken))
 
 between-lines-requires : tie.Need-between-lines-requires
-between-lines-requires c κs = search needs
+between-lines-requires c κs = tt
 
 returns-2 : tie.Need-returns-2
 returns-2 c =

@@ -1,11 +1,10 @@
 use Rattle.log.specs.Reader.{endOf}
 use mathlib.Core.Path.{sym, _∙_}
-use borrow.Author.Needs.{needs}
 use Rattle.log.proofs.end.Statement.{statement}
 use Rattle.log.proofs.end.Tie as tie
 
 is-reader-requires : tie.Need-is-reader-requires
-is-reader-requires c κs = search needs
+is-reader-requires c κs = tt
 
 after-end-requires : tie.Need-after-end-requires
 after-end-requires c κs = sym (c .before .is-reader .ensures) ∙ c .if1 .taken
@@ -15,7 +14,7 @@ unfolding endOf
 returns c = c .after-end .ensures ∙ sym (rw (sym (c .before .before .is-reader .ensures) ∙ c .before .if1 .taken))
 
 no-reader-requires : tie.Need-no-reader-requires
-no-reader-requires c κs = search needs
+no-reader-requires c κs = tt
 
 returns-2 : tie.Need-returns-2
 unfolding endOf

@@ -10,10 +10,10 @@ use Rattle.log.proofs.feed.Statement.{statement}
 use Rattle.log.proofs.feed.Tie as tie
 
 is-reader-requires : tie.Need-is-reader-requires
-is-reader-requires c κs = search needs
+is-reader-requires c κs = tt
 
 no-reader-requires : tie.Need-no-reader-requires
-no-reader-requires c κs = search needs
+no-reader-requires c κs = tt
 
 returns : tie.Need-returns
 unfolding fedOf
@@ -23,7 +23,7 @@ run-requires : tie.Need-run-requires
 run-requires c κs = sym (c .before .is-reader .ensures) ∙ not-false _ (c .if1 .left)
 
 is-refused-requires : tie.Need-is-refused-requires
-is-refused-requires c κs = search needs
+is-refused-requires c κs = tt
 
 kept : (c : tie.After-is-refused) → Kept (c .before .before .run .result)
 kept c =

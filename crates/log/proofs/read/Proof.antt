@@ -3,12 +3,11 @@ use Rattle.log.proofs.Runs.{run-kept, fresh-kept}
 use Rattle.log.specs.Reader.{run, endedAt, wholeOf, readOf}
 use Rattle.log.specs.declared.Reader.{Reader}
 use mathlib.Core.Path.{_∙_, ap}
-use borrow.Author.Needs.{needs}
 use Rattle.log.proofs.read.Statement.{statement}
 use Rattle.log.proofs.read.Tie as tie
 
 start-requires : tie.Need-start-requires
-start-requires c κs = search needs
+start-requires c κs = tt
 
 run-requires : tie.Need-run-requires
 run-requires c κs = rw (c .start .ensures) (fresh-kept .0)

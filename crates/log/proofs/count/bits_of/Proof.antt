@@ -8,7 +8,7 @@ use Rattle.log.proofs.count.bits_of.Statement.{statement}
 use Rattle.log.proofs.count.bits_of.Tie as tie
 
 is-corrected-requires : tie.Need-is-corrected-requires
-is-corrected-requires c κs = search needs
+is-corrected-requires c κs = tt
 
 sub-result : tie.Need-sub-result
 sub-result c =

@@ -1,70 +1,97 @@
 -- `log::count::count_one`: no sum is too great, since a log has at most 999,999 slots. Assumes nothing.
-use Prim.Native.Nat.{_+_, _*_, _≤_}
+use Prim.Native.Nat.{ℕ, _+_, _<_, _≤_}
 use mathlib.Core.Bool.{Bool, true, false}
 use mathlib.Core.Path.{_≡_, refl}
-use mir.Val.{boolByte}
-use Rattle.log.specs.Log.{isCorrected, one, counted}
-use Rattle.log.proofs.Lists.{byte-small}
+use mir.Val.{Fits, boolByte}
+use mir.Syntax.{w32}
+use Rattle.log.specs.Log.{isCorrected, one, counted, isSound}
 use Rattle.log.proofs.Sound.{sound}
+use Rattle.log.specs.declared.Counts.{Counts}
 use lib.Dec.{eqb}
 use native.Mathlib.Omega.{arith}
-use borrow.Author.Needs.{needs}
 use Rattle.log.proofs.count.count_one.Statement.{statement}
 use Rattle.log.proofs.count.count_one.Tie as tie
 
-bounds : (c : tie.Start) → let x = c .args .counts in (x .read + x .noword + x .check + x .missing ≤ 999998) × (x .clean ≤ x .read) × (x .bits ≤ 8 * 999998)
-bounds c = let s = sound (c .args .counts) (c .pre .0) in omega (arith, s .each, s .clean, s .most)
+-- each count, with room for what a slot adds to it
+record Low (x : Counts) : Type 0 where
+  slots : x .slots ≤ 7999984
+  read : x .read ≤ 7999984
+  clean : x .clean ≤ 7999984
+  bits : x .bits ≤ 7999984
+  noword : x .noword ≤ 7999984
+  check : x .check ≤ 7999984
+  missing : x .missing ≤ 7999984
+
+low : (x : Counts) → isSound x ≡ true → x .slots < 999999 → Low x
+low x e h =
+    let s = sound x e in
+    let t : x .read + x .noword + x .check + x .missing ≤ 999998 = omega (arith, s .each) in
+    record {
+      slots = omega arith;
+      read = omega arith;
+      clean = omega (arith, s .clean);
+      bits = omega (arith, s .most);
+      noword = omega arith;
+      check = omega arith;
+      missing = omega arith;
+    }
+
+lowOf : (c : tie.Start) → Low (c .args .counts)
+lowOf c = low (c .args .counts) (c .pre .0) (c .pre .1)
+
+room : (a b : ℕ) → a ≤ 7999984 → b ≤ 8 → Fits w32 (a + b)
+room a b h k = omega arith
+
+test-room : (a : ℕ) (b : Bool) → a ≤ 7999984 → Fits w32 (a + boolByte b)
+test-room a true h = room a 1 h (omega arith)
+test-room a false h = room a 0 h (omega arith)
 
 -- a test as a number
 byte-one : (b : Bool) → boolByte b ≡ one b
 byte-one true = refl
 byte-one false = refl
 
-tests : (c : tie.Start) → let o = c .args .outcome in
-    (boolByte (eqb o 48) ≤ 1) × (boolByte (eqb o 110) ≤ 1) × (boolByte (eqb o 99) ≤ 1) × (boolByte (eqb o 45) ≤ 1)
-tests c = let o = c .args .outcome in (byte-small (eqb o 48), byte-small (eqb o 110), byte-small (eqb o 99), byte-small (eqb o 45))
-
 add-t3 : tie.Need-add-t3
-add-t3 c = search needs
+add-t3 c = test-room _ true (lowOf (c .before) .slots)
 
 is-corrected-requires : tie.Need-is-corrected-requires
-is-corrected-requires c κs = search needs
+is-corrected-requires c κs = tt
 
 cast-t5 : tie.Need-cast-t5
-cast-t5 c = search needs
+cast-t5 c = tt
 
 add-t6 : tie.Need-add-t6
-add-t6 c = omega (arith, bounds (c .before .before .before), byte-small (c .before .is-corrected .result))
+add-t6 c = test-room _ (c .before .is-corrected .result) (lowOf (c .before .before .before) .read)
 
 cast-t8 : tie.Need-cast-t8
-cast-t8 c = search needs
+cast-t8 c = tt
 
 add-t9 : tie.Need-add-t9
-add-t9 c = omega (arith, bounds (c .before .before .before .before), tests (c .before .before .before .before))
+add-t9 c = let k = c .before .before .before .before in test-room _ (eqb (k .args .outcome) 48) (lowOf k .clean)
 
 bits-of-requires : tie.Need-bits-of-requires
-bits-of-requires c κs = search needs
+bits-of-requires c κs = tt
 
 add-t11 : tie.Need-add-t11
-add-t11 c = omega (arith, bounds (c .before .before .before .before .before .before), c .before .bits-of .ensures .1)
+add-t11 c = room _ _ (lowOf (c .before .before .before .before .before .before) .bits) (c .before .bits-of .ensures .1)
 
 cast-t13 : tie.Need-cast-t13
-cast-t13 c = search needs
+cast-t13 c = tt
 
 add-t14 : tie.Need-add-t14
-add-t14 c = omega (arith, bounds (c .before .before .before .before .before .before .before), tests (c .before .before .before .before .before .before .before))
+add-t14 c = let k = c .before .before .before .before .before .before .before in test-room _ (eqb (k .args .outcome) 110) (lowOf k .noword)
 
 cast-t16 : tie.Need-cast-t16
-cast-t16 c = search needs
+cast-t16 c = tt
 
 add-t17 : tie.Need-add-t17
-add-t17 c = omega (arith, bounds (c .before .before .before .before .before .before .before .before), tests (c .before .before .before .before .before .before .before .before))
+add-t17 c = let k = c .before .before .before .before .before .before .before .before in test-room _ (eqb (k .args .outcome) 99) (lowOf k .check)
 
 cast-t19 : tie.Need-cast-t19
-cast-t19 c = search needs
+cast-t19 c = tt
 
 add-t20 : tie.Need-add-t20
-add-t20 c = omega (arith, bounds (c .before .before .before .before .before .before .before .before .before), tests (c .before .before .before .before .before .before .before .before .before))
+add-t20 c = let k = c .before .before .before .before .before .before .before .before .before in test-room _ (eqb (k .args .outcome) 45) (lowOf k .missing)
 
 returns : tie.Need-returns
 unfolding counted

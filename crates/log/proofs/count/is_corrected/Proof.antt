@@ -1,9 +1,8 @@
-use borrow.Author.Needs.{needs}
 use Rattle.log.proofs.count.is_corrected.Statement.{statement}
 use Rattle.log.proofs.count.is_corrected.Tie as tie
 
 is-digit-requires : tie.Need-is-digit-requires
-is-digit-requires c κs = search needs
+is-digit-requires c κs = tt
 
 returns : tie.Need-returns
 returns c = c .is-digit .ensures

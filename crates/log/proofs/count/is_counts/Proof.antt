@@ -8,10 +8,10 @@ cast-is-channel : tie.Need-cast-is-channel
 cast-is-channel c = search needs
 
 is-channel-requires : tie.Need-is-channel-requires
-is-channel-requires c κs = search needs
+is-channel-requires c κs = tt
 
 is-sound-requires : tie.Need-is-sound-requires
-is-sound-requires c κs = search needs
+is-sound-requires c κs = tt
 
 returns : tie.Need-returns
 unfolding isCounts

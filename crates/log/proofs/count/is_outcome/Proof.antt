@@ -1,11 +1,10 @@
 -- `log::count::is_outcome` makes every test. Assumes nothing.
 use Rattle.log.specs.Log.{isOutcome}
-use borrow.Author.Needs.{needs}
 use Rattle.log.proofs.count.is_outcome.Statement.{statement}
 use Rattle.log.proofs.count.is_outcome.Tie as tie
 
 is-corrected-requires : tie.Need-is-corrected-requires
-is-corrected-requires c κs = search needs
+is-corrected-requires c κs = tt
 
 returns : tie.Need-returns
 unfolding isOutcome

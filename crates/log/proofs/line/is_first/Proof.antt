@@ -24,7 +24,7 @@ slice-aggregate-same-2 : tie.Need-slice-aggregate-same-2
 slice-aggregate-same-2 c = search needs
 
 same-requires : tie.Need-same-requires
-same-requires c κs = search needs
+same-requires c κs = tt
 
 sub-spells : tie.Need-sub-spells
 sub-spells c = search needs
@@ -36,7 +36,7 @@ part-spells-end : tie.Need-part-spells-end
 part-spells-end c = search needs
 
 spells-requires : tie.Need-spells-requires
-spells-requires c κs = search needs
+spells-requires c κs = tt
 
 returns-2 : tie.Need-returns-2
 returns-2 c =

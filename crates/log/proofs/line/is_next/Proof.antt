@@ -35,7 +35,7 @@ shared-slice-read-is-outcome : tie.Need-shared-slice-read-is-outcome
 shared-slice-read-is-outcome c = search needs
 
 is-outcome-requires : tie.Need-is-outcome-requires
-is-outcome-requires c κs = search needs
+is-outcome-requires c κs = tt
 
 slice-aggregate-spells : tie.Need-slice-aggregate-spells
 slice-aggregate-spells c = sym (length-take-le _ _ (omega arith))
@@ -44,7 +44,7 @@ add-spells : tie.Need-add-spells
 add-spells c = search needs
 
 spells-requires : tie.Need-spells-requires
-spells-requires c κs = search needs
+spells-requires c κs = tt
 
 shared-slice-read-result : tie.Need-shared-slice-read-result
 shared-slice-read-result c = search needs

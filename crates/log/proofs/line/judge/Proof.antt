@@ -4,22 +4,21 @@ use borrow.Author.Tests.{eq-eqb, ne-eqb}
 use mathlib.Core.Path.{sym, _∙_}
 use native.Mathlib.Omega.{arith}
 use denote.Ref.{now}
-use borrow.Author.Needs.{needs}
 use Rattle.log.proofs.line.judge.Statement.{statement}
 use Rattle.log.proofs.line.judge.Tie as tie
 
 channel-of-requires : tie.Need-channel-of-requires
-channel-of-requires c κs = search needs
+channel-of-requires c κs = tt
 
 tuned-to-requires : tie.Need-tuned-to-requires
-tuned-to-requires c κs = search needs
+tuned-to-requires c κs = tt
 
 returns : tie.Need-returns
 unfolding judged
 returns c = rw (eq-eqb (c .before .before .before .before .before .args .counts .channel) 0 (c .before .before .if1 .taken), c .tuned-to .ensures, c .before .channel-of .ensures)
 
 is-next-requires : tie.Need-is-next-requires
-is-next-requires c κs = search needs
+is-next-requires c κs = tt
 
 sub-count-one : tie.Need-sub-count-one
 sub-count-one c = next-long (c .before .before .before .before .before .args .counts .slots) (now (c .before .before .before .before .before .args .line)) (sym (c .before .is-next .ensures) ∙ c .if2 .taken)

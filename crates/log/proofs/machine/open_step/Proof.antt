@@ -20,7 +20,7 @@ judge-requires : tie.Need-judge-requires
 judge-requires c κs = before-sound _ (ruled _ (c .before .before .before .before .pre) .before)
 
 after-line-requires : tie.Need-after-line-requires
-after-line-requires c κs = search needs
+after-line-requires c κs = tt
 
 returns : tie.Need-returns
 unfolding openStep
@@ -37,7 +37,7 @@ unfolding openStep
 returns-2 c = rw (ne-eqb (c .before .before .before .before .args .byte) 10 (c .before .if1 .left), lt-ltb (c .before .before .before .before .args .reader .length) 63 (c .if2 .taken))
 
 between-lines-requires : tie.Need-between-lines-requires
-between-lines-requires c κs = search needs
+between-lines-requires c κs = tt
 
 returns-3 : tie.Need-returns-3
 unfolding openStep

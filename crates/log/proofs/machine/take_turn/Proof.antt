@@ -13,7 +13,7 @@ use Rattle.log.proofs.machine.take_turn.Statement.{statement}
 use Rattle.log.proofs.machine.take_turn.Tie as tie
 
 is-refused-requires : tie.Need-is-refused-requires
-is-refused-requires c κs = search needs
+is-refused-requires c κs = tt
 
 returns : tie.Need-returns
 returns c =
@@ -24,7 +24,7 @@ whole-lines-requires : tie.Need-whole-lines-requires
 whole-lines-requires c κs = (ruled _ (c .before .before .before .before .before .before .pre .0) .before, omega (arith, c .before .before .before .before .before .before .pre .1 .1))
 
 between-lines-requires : tie.Need-between-lines-requires
-between-lines-requires c κs = search needs
+between-lines-requires c κs = tt
 
 returns-2 : tie.Need-returns-2
 returns-2 c =

@@ -12,13 +12,13 @@ use Rattle.log.proofs.rule.is_before.Tie as tie
 use Rattle.band.proofs.is_channel.Reads as is-channel-reads
 
 is-sound-requires : tie.Need-is-sound-requires
-is-sound-requires c κs = search needs
+is-sound-requires c κs = tt
 
 cast-is-channel : tie.Need-cast-is-channel
 cast-is-channel c = search needs
 
 is-channel-requires : tie.Need-is-channel-requires
-is-channel-requires c κs = search needs
+is-channel-requires c κs = tt
 
 either : (channel : ℕ) (none b : Bool) → eqb channel 0 ≡ b → (b && none || isChannel channel) ≡ cond b none (isChannel channel)
 either channel none true e = ap (λ (n : ℕ). none || isChannel n) (eqb-true channel 0 e) ∙ or-false none

@@ -36,7 +36,7 @@ part-same-end-2 : tie.Need-part-same-end-2
 part-same-end-2 c = search needs
 
 same-requires : tie.Need-same-requires
-same-requires c κs = search needs
+same-requires c κs = tt
 
 returns : tie.Need-returns
 unfolding isHeld

@@ -8,7 +8,7 @@ use Rattle.log.proofs.rule.is_reader.Statement.{statement}
 use Rattle.log.proofs.rule.is_reader.Tie as tie
 
 is-holding-requires : tie.Need-is-holding-requires
-is-holding-requires c κs = search needs
+is-holding-requires c κs = tt
 
 slice-aggregate-is-held : tie.Need-slice-aggregate-is-held
 slice-aggregate-is-held c = search needs
@@ -20,7 +20,7 @@ is-held-requires c κs =
     (f, small (r .phase) (r .length) (sym (c .before .before .is-holding .ensures) ∙ c .before .if1 .taken))
 
 is-before-requires : tie.Need-is-before-requires
-is-before-requires c κs = search needs
+is-before-requires c κs = tt
 
 returns : tie.Need-returns
 unfolding isReader

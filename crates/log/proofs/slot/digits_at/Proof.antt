@@ -4,7 +4,6 @@ use Rattle.log.proofs.Slots.{reads-none, reads-digit, reads-small}
 use Rattle.log.specs.Machine.{Reads}
 use Rattle.band.proofs.Laws.{within}
 use Prim.Native.Nat.{_+_, _-_}
-use borrow.Author.Needs.{needs}
 use borrow.Author.Tests.{not-false}
 use mathlib.Core.Path.{sym, _∙_}
 use native.Mathlib.Omega.{arith}
@@ -27,7 +26,7 @@ shared-slice-read-byte : tie.Need-shared-slice-read-byte Inv-loop μ-loop
 shared-slice-read-byte c = omega (arith, c .before .before .before .before .pre .0)
 
 is-digit-requires : tie.Need-is-digit-requires Inv-loop μ-loop
-is-digit-requires c κs = search needs
+is-digit-requires c κs = tt
 
 returns : tie.Need-returns Inv-loop μ-loop
 returns c = c .before .before .before .before .loop .inv

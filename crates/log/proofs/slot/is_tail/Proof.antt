@@ -19,7 +19,7 @@ shared-slice-read-is-outcome : tie.Need-shared-slice-read-is-outcome
 shared-slice-read-is-outcome c = search needs
 
 is-outcome-requires : tie.Need-is-outcome-requires
-is-outcome-requires c κs = search needs
+is-outcome-requires c κs = tt
 
 returns : tie.Need-returns
 returns c = rw (c .is-outcome .ensures)
