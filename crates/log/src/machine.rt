@@ -24,12 +24,6 @@ struct Turn {
     at: usize,
 }
 
-// The counts after some whole lines, and where the next line starts.
-struct Lines {
-    counts: Counts,
-    at: usize,
-}
-
 pub(crate) fn between_lines(phase: Phase, counts: Counts) -> Reader
     ensures { λ r. ⌜ r ≡ between phase counts ⌝ }
 {
@@ -74,13 +68,9 @@ fn take_turn(reader: Reader, piece: &[u8], from: usize) -> Turn
         };
     }
     if reader.length == 0 {
-        let lines = whole_lines(counts, piece, from);
-        if from < lines.at {
-            let good = lines.counts;
-            return Turn {
-                reader: between_lines(Phase::Open, good),
-                at: lines.at,
-            };
+        let turn = whole_lines(counts, piece, from);
+        if from < turn.at {
+            return turn;
         }
     }
     Turn {
@@ -100,22 +90,24 @@ pub(crate) fn is_refused(phase: Phase) -> bool
 }
 
 // Takes the good lines of slots that stand whole in the piece from here on.
-fn whole_lines(counts: Counts, piece: &[u8], from: usize) -> Lines
+fn whole_lines(counts: Counts, piece: &[u8], from: usize) -> Turn
     requires { ⌜ isBefore counts ≡ true ⌝ }
     requires { ⌜ from ≤ length (now piece) ⌝ }
-    ensures { λ r. ⌜ Goes (now (piece .entry)) (between (Phase.Open) counts) from (between (Phase.Open) (r .counts)) (r .at) ⌝ }
+    ensures { λ r. ⌜ Goes (now (piece .entry)) (between (Phase.Open) counts) from (r .reader) (r .at) ⌝ }
 {
     let mut so_far = counts;
     let mut at = from;
-    while at < piece.len() {
+    loop {
         let end = slot::slot_end(so_far, piece, at);
         if end == piece.len() {
-            return Lines { counts: so_far, at };
+            return Turn {
+                reader: between_lines(Phase::Open, so_far),
+                at,
+            };
         }
         so_far = count::count_one(so_far, piece[end - 1]);
         at = end + 1;
     }
-    Lines { counts: so_far, at }
 }
 
 fn open_step(reader: Reader, byte: u8) -> Reader

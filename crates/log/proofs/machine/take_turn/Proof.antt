@@ -1,5 +1,4 @@
-use Rattle.log.specs.Reader.{between, isOpen}
-use Rattle.log.specs.declared.Phase.the-variants.{Open}
+use Rattle.log.specs.Reader.{isOpen}
 use Rattle.log.proofs.Goes.{goes-byte, goes-shut, open-between}
 use Rattle.log.proofs.Runs.{ruled}
 use Rattle.log.specs.Machine.{Goes}
@@ -23,16 +22,15 @@ returns c =
 whole-lines-requires : tie.Need-whole-lines-requires
 whole-lines-requires c κs = (ruled _ (c .before .before .before .before .before .before .pre .0) .before, omega (arith, c .before .before .before .before .before .before .pre .1 .1))
 
-between-lines-requires : tie.Need-between-lines-requires
-between-lines-requires c κs = tt
-
 returns-2 : tie.Need-returns-2
 returns-2 c =
-    let s = c .before .before .before .before .before .before .before .before .before .before .before .args .reader in let o = not-false (isOpen (s .phase)) (sym (c .before .before .before .before .before .before .before .before .is-refused .ensures) ∙ c .before .before .before .before .before .before .before .if1 .left) in (
-      rw (c .between-lines .ensures)
-          (subst (λ (t : Reader). Goes (now (c .before .before .before .before .before .before .before .before .before .before .before .args .piece)) t (c .before .before .before .before .before .before .before .before .before .before .before .args .from) (between Open (c .before .before .before .before .whole-lines .result .counts)) (c .before .before .before .before .whole-lines .result .at))
-          (sym (open-between s (c .before .before .before .before .before .before .before .before .before .before .before .pre .0, c .before .before .before .before .before .before .before .before .before .before .before .pre .1 .0) o (c .before .before .before .before .before .if2 .taken))) (c .before .before .before .before .whole-lines .ensures)),
-      c .before .before .if3 .taken,
+    let a = c .before .before .before .before .before .before .before .before .before in
+    let s = a .args .reader in
+    let o = not-false (isOpen (s .phase)) (sym (c .before .before .before .before .before .before .is-refused .ensures) ∙ c .before .before .before .before .before .if1 .left) in
+    let w = c .before .before .whole-lines in (
+      subst (λ (t : Reader). Goes (now (a .args .piece)) t (a .args .from) (w .result .reader) (w .result .at))
+          (sym (open-between s (a .pre .0, a .pre .1 .0) o (c .before .before .before .if2 .taken))) (w .ensures),
+      c .if3 .taken,
     )
 
 shared-slice-read-open-step : tie.Need-shared-slice-read-open-step
@@ -41,8 +39,8 @@ shared-slice-read-open-step c = search needs
 open-step-requires : tie.Need-open-step-requires
 open-step-requires c κs = search needs
 
-add-t17 : tie.Need-add-t17
-add-t17 c = search needs
+add-t14 : tie.Need-add-t14
+add-t14 c = search needs
 
 returns-3 : tie.Need-returns-3
 returns-3 c =
@@ -56,9 +54,8 @@ take-turn-spec =
     is-refused-requires
     returns
     whole-lines-requires
-    between-lines-requires
     returns-2
     shared-slice-read-open-step
     open-step-requires
-    add-t17
+    add-t14
     returns-3)
