@@ -4,11 +4,10 @@ ghost use mathlib.Core.Path.{_≡_};
 ghost use mathlib.Core.Bool.{true, not};
 ghost use Prim.Native.Nat.{_≤_, _<_};
 ghost use lib.ListN.{length};
-ghost use Rattle.log.specs.Reader.{between, afterLine, openStep, isOpen, isBefore, isReader};
+ghost use Rattle.log.specs.Reader.{between, openStep, isOpen, isBefore, isReader};
 ghost use Rattle.log.specs.Machine.{Goes};
 ghost use Rattle.log.specs.Reader.{run as Reader·run};
 use crate::Counts;
-use crate::Judged;
 use crate::Phase;
 use crate::Reader;
 use crate::count;
@@ -97,7 +96,7 @@ fn whole_lines(counts: Counts, piece: &[u8], from: usize) -> Turn
 {
     let mut so_far = counts;
     let mut at = from;
-    loop {
+    while at < piece.len() {
         let end = slot::slot_end(so_far, piece, at);
         if end == piece.len() {
             return Turn {
@@ -107,6 +106,10 @@ fn whole_lines(counts: Counts, piece: &[u8], from: usize) -> Turn
         }
         so_far = count::count_one(so_far, piece[end - 1]);
         at = end + 1;
+    }
+    Turn {
+        reader: between_lines(Phase::Open, so_far),
+        at,
     }
 }
 
@@ -118,7 +121,12 @@ fn open_step(reader: Reader, byte: u8) -> Reader
     let held = reader.held;
     let at = reader.length;
     if byte == b'\n' {
-        return after_line(line::judge(counts, &held[..at]));
+        let judged = line::judge(counts, &held[..at]);
+        let after = judged.counts;
+        if judged.good {
+            return between_lines(Phase::Open, after);
+        }
+        return between_lines(Phase::Refused, after);
     }
     if at < LONGEST_LINE {
         let mut more = held;
@@ -129,16 +137,6 @@ fn open_step(reader: Reader, byte: u8) -> Reader
             held: more,
             length: at + 1,
         };
-    }
-    between_lines(Phase::Refused, counts)
-}
-
-fn after_line(judged: Judged) -> Reader
-    ensures { λ r. ⌜ r ≡ afterLine judged ⌝ }
-{
-    let counts = judged.counts;
-    if judged.good {
-        return between_lines(Phase::Open, counts);
     }
     between_lines(Phase::Refused, counts)
 }

@@ -1,8 +1,8 @@
 use Rattle.log.proofs.Runs.{ruled, reader-small}
 use Rattle.log.proofs.Outcomes.{before-sound}
-use Rattle.log.specs.Reader.{afterLine, openStep}
+use Rattle.log.specs.Reader.{openStep}
 use borrow.Author.Tests.{eq-eqb, ne-eqb, lt-ltb, le-ltb}
-use mathlib.Core.Path.{_≡_, sym, _∙_, ap}
+use mathlib.Core.Path.{_≡_, sym, _∙_}
 use native.Mathlib.Omega.{arith}
 use lib.Seq.{length-take-le}
 use lib.ListN.{length}
@@ -19,29 +19,40 @@ slice-aggregate-judge c = let f : length (c .before .before .before .before .arg
 judge-requires : tie.Need-judge-requires
 judge-requires c κs = before-sound _ (ruled _ (c .before .before .before .before .pre) .before)
 
-after-line-requires : tie.Need-after-line-requires
-after-line-requires c κs = tt
+between-lines-requires : tie.Need-between-lines-requires
+between-lines-requires c κs = tt
 
 returns : tie.Need-returns
 unfolding openStep
-returns c = c .after-line .ensures ∙ ap afterLine (c .before .judge .ensures) ∙ sym (rw (eq-eqb (c .before .before .before .before .before .before .args .byte) 10 (c .before .before .before .if1 .taken)))
+returns c =
+    let g = sym (c .before .before .before .judge .ensures) in
+    c .between-lines .ensures ∙ sym (rw (eq-eqb (c .before .before .before .before .before .before .before .before .args .byte) 10 (c .before .before .before .before .before .if1 .taken), g, c .before .if2 .taken))
+
+between-lines-requires-2 : tie.Need-between-lines-requires-2
+between-lines-requires-2 c κs = tt
+
+returns-2 : tie.Need-returns-2
+unfolding openStep
+returns-2 c =
+    let g = sym (c .before .before .before .judge .ensures) in
+    c .between-lines2 .ensures ∙ sym (rw (eq-eqb (c .before .before .before .before .before .before .before .before .args .byte) 10 (c .before .before .before .before .before .if1 .taken), g, c .before .if2 .left))
 
 array-write-more : tie.Need-array-write-more
 array-write-more c = search needs
 
-add-t15 : tie.Need-add-t15
-add-t15 c = search needs
-
-returns-2 : tie.Need-returns-2
-unfolding openStep
-returns-2 c = rw (ne-eqb (c .before .before .before .before .args .byte) 10 (c .before .if1 .left), lt-ltb (c .before .before .before .before .args .reader .length) 63 (c .if2 .taken))
-
-between-lines-requires : tie.Need-between-lines-requires
-between-lines-requires c κs = tt
+add-t19 : tie.Need-add-t19
+add-t19 c = search needs
 
 returns-3 : tie.Need-returns-3
 unfolding openStep
-returns-3 c = c .between-lines .ensures ∙ sym (rw (ne-eqb (c .before .before .before .before .before .args .byte) 10 (c .before .before .if1 .left), le-ltb (c .before .before .before .before .before .args .reader .length) 63 (c .before .if2 .left)))
+returns-3 c = rw (ne-eqb (c .before .before .before .before .args .byte) 10 (c .before .if1 .left), lt-ltb (c .before .before .before .before .args .reader .length) 63 (c .if3 .taken))
+
+between-lines-requires-3 : tie.Need-between-lines-requires-3
+between-lines-requires-3 c κs = tt
+
+returns-4 : tie.Need-returns-4
+unfolding openStep
+returns-4 c = c .between-lines3 .ensures ∙ sym (rw (ne-eqb (c .before .before .before .before .before .args .byte) 10 (c .before .before .if1 .left), le-ltb (c .before .before .before .before .before .args .reader .length) 63 (c .before .if3 .left)))
 
 pub open-step-spec : {M : Type 1} → statement M
 open-step-spec =
@@ -50,10 +61,12 @@ open-step-spec =
     array-share-prefix-held
     slice-aggregate-judge
     judge-requires
-    after-line-requires
-    returns
-    array-write-more
-    add-t15
-    returns-2
     between-lines-requires
-    returns-3)
+    returns
+    between-lines-requires-2
+    returns-2
+    array-write-more
+    add-t19
+    returns-3
+    between-lines-requires-3
+    returns-4)

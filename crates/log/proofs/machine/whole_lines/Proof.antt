@@ -22,13 +22,13 @@ loop-holds : tie.Need-loop-holds Inv-loop μ-loop
 loop-holds c = goes-start _ (between Open (c .before .args .counts)) (c .before .args .from) (between-ruled Open _ refl (c .before .pre .0), refl) (c .before .pre .1)
 
 slot-end-requires : tie.Need-slot-end-requires Inv-loop μ-loop
-slot-end-requires c κs = (ruled _ (c .loop .inv .rule) .before, c .loop .inv .within)
+slot-end-requires c κs = (ruled _ (c .before .loop .inv .rule) .before, c .before .loop .inv .within)
 
 between-lines-requires : tie.Need-between-lines-requires Inv-loop μ-loop
 between-lines-requires c κs = tt
 
 returns : tie.Need-returns Inv-loop μ-loop
-returns c = rw (c .between-lines .ensures) (c .before .before .before .loop .inv)
+returns c = rw (c .between-lines .ensures) (c .before .before .before .before .loop .inv)
 
 sub-count-one : tie.Need-sub-count-one Inv-loop μ-loop
 sub-count-one c =
@@ -46,27 +46,34 @@ count-one-requires : tie.Need-count-one-requires Inv-loop μ-loop
 count-one-requires c κs =
     let s = c .before .before .slot-end in
     let w = s .ensures .1 (omega (arith, s .ensures .0)) in
-    (before-sound _ (ruled _ (c .before .before .before .loop .inv .rule) .before), w .few)
+    (before-sound _ (ruled _ (c .before .before .before .before .loop .inv .rule) .before), w .few)
 
 add-at : tie.Need-add-at Inv-loop μ-loop
 add-at c =
     let s = c .before .before .before .slot-end in
+    let w = s .ensures .1 (omega (arith, s .ensures .0)) in
     omega (arith, s .ensures .0)
 
 loop-less : tie.Need-loop-less Inv-loop μ-loop
 loop-less c =
     let s = c .before .before .before .slot-end in
     let w = s .ensures .1 (omega (arith, s .ensures .0)) in
-    omega (arith, w .on, s .ensures .0)
+    omega (arith, w .on)
 
 loop-again : tie.Need-loop-again Inv-loop μ-loop
 loop-again c =
     let s = c .before .before .before .slot-end in
     let w = s .ensures .1 (omega (arith, s .ensures .0)) in
-    let p = c .before .before .before .before .loop in
-    let l = now (c .before .before .before .before .before .before .args .piece) in
+    let p = c .before .before .before .before .before .loop in
+    let l = now (c .before .before .before .before .before .before .before .args .piece) in
     goes-on l _ (between Open (p .so-far)) _ _ (p .at) _ (p .inv)
     (rw (c .count-one .ensures) (goes-slot l (p .so-far) (p .at) (s .result) (ruled _ (p .inv .rule) .before) w (omega (arith, s .ensures .0))))
+
+between-lines-requires-2 : tie.Need-between-lines-requires-2 Inv-loop μ-loop
+between-lines-requires-2 c κs = tt
+
+returns-2 : tie.Need-returns-2 Inv-loop μ-loop
+returns-2 c = rw (c .between-lines2 .ensures) (c .before .before .loop .inv)
 
 pub whole-lines-spec : {M : Type 1} → statement M
 whole-lines-spec =
@@ -83,4 +90,6 @@ whole-lines-spec =
     count-one-requires
     add-at
     loop-less
-    loop-again)
+    loop-again
+    between-lines-requires-2
+    returns-2)
