@@ -42,9 +42,9 @@ lowOf c = low (c .args .counts) (c .pre .0) (c .pre .1)
 room : (a b : ℕ) → a ≤ 7999984 → b ≤ 8 → Fits w32 (a + b)
 room a b h k = omega arith
 
-test-room : (a : ℕ) (b : Bool) → a ≤ 7999984 → Fits w32 (a + boolByte b)
-test-room a true h = room a 1 h (omega arith)
-test-room a false h = room a 0 h (omega arith)
+bit : (b : Bool) → boolByte b ≤ 8
+bit true = omega arith
+bit false = omega arith
 
 -- a test as a number
 byte-one : (b : Bool) → boolByte b ≡ one b
@@ -52,7 +52,7 @@ byte-one true = refl
 byte-one false = refl
 
 add-t3 : tie.Need-add-t3
-add-t3 c = test-room _ true (lowOf (c .before) .slots)
+add-t3 c = room _ _ (lowOf (c .before) .slots) (bit true)
 
 is-corrected-requires : tie.Need-is-corrected-requires
 is-corrected-requires c κs = tt
@@ -61,13 +61,13 @@ cast-t5 : tie.Need-cast-t5
 cast-t5 c = tt
 
 add-t6 : tie.Need-add-t6
-add-t6 c = test-room _ (c .before .is-corrected .result) (lowOf (c .before .before .before) .read)
+add-t6 c = room _ _ (lowOf (c .before .before .before) .read) (search bit)
 
 cast-t8 : tie.Need-cast-t8
 cast-t8 c = tt
 
 add-t9 : tie.Need-add-t9
-add-t9 c = let k = c .before .before .before .before in test-room _ (eqb (k .args .outcome) 48) (lowOf k .clean)
+add-t9 c = room _ _ (lowOf (c .before .before .before .before) .clean) (search bit)
 
 bits-of-requires : tie.Need-bits-of-requires
 bits-of-requires c κs = tt
@@ -79,19 +79,19 @@ cast-t13 : tie.Need-cast-t13
 cast-t13 c = tt
 
 add-t14 : tie.Need-add-t14
-add-t14 c = let k = c .before .before .before .before .before .before .before in test-room _ (eqb (k .args .outcome) 110) (lowOf k .noword)
+add-t14 c = room _ _ (lowOf (c .before .before .before .before .before .before .before) .noword) (search bit)
 
 cast-t16 : tie.Need-cast-t16
 cast-t16 c = tt
 
 add-t17 : tie.Need-add-t17
-add-t17 c = let k = c .before .before .before .before .before .before .before .before in test-room _ (eqb (k .args .outcome) 99) (lowOf k .check)
+add-t17 c = room _ _ (lowOf (c .before .before .before .before .before .before .before .before) .check) (search bit)
 
 cast-t19 : tie.Need-cast-t19
 cast-t19 c = tt
 
 add-t20 : tie.Need-add-t20
-add-t20 c = let k = c .before .before .before .before .before .before .before .before .before in test-room _ (eqb (k .args .outcome) 45) (lowOf k .missing)
+add-t20 c = room _ _ (lowOf (c .before .before .before .before .before .before .before .before .before) .missing) (search bit)
 
 returns : tie.Need-returns
 unfolding counted
