@@ -1,8 +1,8 @@
 // Reads a line as a case: a command of the table, and its arguments by the command's row.
-ghost use Prim.Native.Nat.{_<_};
-ghost use Rattle.io.specs.Counts.{Counts};
+use crate::arguments;
+use crate::arguments::UNREADABLE;
 use crate::floats;
-use text::Bytes;
+use crate::rooms;
 use text::Number;
 
 // The commands, and for each the kinds of its arguments: a number below 256 (s), 65,536 (m) or 2^32 (w), a flag (f), the
@@ -13,200 +13,150 @@ const NAMES: [u8; 126] =
 const ROWS: [u8; 89] =
     *b"io\tio\tio\tssffmffsio\tmgwssssffmfio\tmsfssio\tswwwwwwwo\tswwwwwwwfdfdo\t\tcwpsi\tm\tm\tw\tl\tswwwwwww";
 
+// The words of the commands' successes. Commands with more than one success, or none, have no word here.
+pub const SUCCESSES: [u8; 82] =
+    *b"word\tinformation\tblock\twritten\t\twritten\treport\trow\t\t\tfresh\tkhz\tchannel\tlog\tsummary";
+
+// The places of the commands in the tables.
+pub const CORRECT: usize = 0;
+
+pub const READ_BLOCK: usize = 1;
+
+pub const WRITE_BLOCK: usize = 2;
+
+pub const WRITE_MESSAGE: usize = 3;
+
+pub const JOIN: usize = 4;
+
+pub const WRITE_GROUP: usize = 5;
+
+pub const REPORT: usize = 6;
+
+pub const EXPORT: usize = 7;
+
+pub const NEW_CHANNEL: usize = 8;
+
+pub const STEP: usize = 9;
+
+pub const NEW_GROUP: usize = 10;
+
+pub const KHZ: usize = 11;
+
+pub const CHANNEL: usize = 12;
+
+pub const LOG: usize = 13;
+
+pub const SUMMARY: usize = 14;
+
 // The first so many commands write to what they are lent.
-pub const FILLING: usize = 8;
+pub const FILLING: usize = NEW_CHANNEL;
 
-// One more than a case has arguments.
-pub const MOST: usize = 14;
+// The bytes of a channel, and the most of another argument but a log.
+const CHANNEL_BYTES: usize = 260;
 
-// The bytes of a channel.
-const CHANNEL: usize = 260;
+const MOST_BYTES: usize = 32768;
 
-// The place of the command in the table, its arguments that are numbers, each at its place, and how many bytes are given
-// and lent.
+// The place of the command in the tables, and how many bytes are given and lent.
 pub struct Case {
     pub command: usize,
-    pub numbers: [u64; MOST],
     pub given: usize,
     pub lent: usize,
 }
 
-// Whether an argument can be read, and its number, or how many bytes it has.
-pub struct Argument {
-    pub readable: bool,
-    pub number: u64,
-}
-
-struct Arguments {
-    readable: bool,
-    numbers: [u64; MOST],
-}
-
-// 131,072 zeros, which a log may fill.
-pub(crate) fn room() -> [u8; 131072] {
-    [0; 131072]
-}
-
-// How many of so many bytes a room has.
-pub(crate) fn within(count: usize, room: &[u8]) -> usize
-    ensures { λ r. ⌜ Counts r (now (room .entry)) ⌝ }
-{
-    if count < room.len() {
-        return count;
-    }
-    room.len()
-}
-
-// Reads a line. The bytes that are given and lent come to the start of their rooms.
-pub(crate) fn read(line: &[u8], given: &mut [u8], lent: &mut [u8]) -> Case {
-    let command = word(text::field(line, 0), &NAMES);
-    let row = text::field(&ROWS, command.number as usize);
-    let numbers = read_numbers(line, row);
+// Reads a line. The arguments that are numbers come to their places, and the bytes that are given and lent to the start
+// of their rooms.
+pub(crate) fn read(line: &[u8], numbers: &mut [u64], given: &mut [u8], lent: &mut [u8]) -> Case {
+    let command = word(text::field(line, 0), &NAMES) as usize;
+    let row = text::field(&ROWS, command);
+    let readable = read_numbers(line, row, numbers);
     let input = read_bytes(line, row, b'i', b'l', given);
     let output = read_bytes(line, row, b'o', b'c', lent);
-    case_of(command, numbers, input, output)
+    case_of(command, readable, input, output)
 }
 
 // A line that is no case has no command of the table.
-fn case_of(command: Argument, arguments: Arguments, given: Argument, lent: Argument) -> Case {
-    let numbers = arguments.numbers;
-    let mut case = Case {
-        command: usize::MAX,
-        numbers,
-        given: given.number as usize,
-        lent: lent.number as usize,
-    };
-    if arguments.readable & given.readable & lent.readable {
-        case.command = command.number as usize;
+fn case_of(command: usize, readable: bool, given: u64, lent: u64) -> Case {
+    if readable & (given != UNREADABLE) & (lent != UNREADABLE) {
+        return Case {
+            command,
+            given: given as usize,
+            lent: lent as usize,
+        };
     }
-    case
+    Case {
+        command: usize::MAX,
+        given: 0,
+        lent: 0,
+    }
 }
 
-// The place of a word in a list. Behind the last word of a list the empty one is found, which is none.
-fn word(word: &[u8], list: &[u8]) -> Argument {
+// The place of a word in a list. Behind the last word of a list the empty one would be found, which is none.
+fn word(word: &[u8], list: &[u8]) -> u64 {
+    if word.len() == 0 {
+        return UNREADABLE;
+    }
     let mut i = 0;
     while i < list.len() {
         if text::same(word, text::field(list, i)) {
-            return Argument {
-                readable: 0 < word.len(),
-                number: i as u64,
-            };
+            return i as u64;
         }
         i += 1;
     }
-    Argument {
-        readable: false,
-        number: i as u64,
-    }
+    UNREADABLE
 }
 
 // Reads each argument by its kind. The line has to have one for each kind, and no more.
-fn read_numbers(line: &[u8], row: &[u8]) -> Arguments {
-    let mut numbers = [0u64; MOST];
+fn read_numbers(line: &[u8], row: &[u8], numbers: &mut [u64]) -> bool {
     let mut readable = text::arguments(line) == row.len();
     let mut i = 0;
-    while i < MOST {
-        let argument = read_at(line, row, i);
-        numbers[i] = argument.number;
-        readable = argument.readable & readable;
+    while i < row.len() {
+        let number = read_number(row[i], text::field(line, i + 1));
+        readable = arguments::keep(numbers, i + 1, number) & readable;
         i += 1;
     }
-    Arguments { readable, numbers }
-}
-
-// The argument at a place; where the row has none, 0.
-fn read_at(line: &[u8], row: &[u8], place: usize) -> Argument
-    requires { ⌜ place < 14 ⌝ }
-{
-    if row.len() <= place {
-        return Argument {
-            readable: true,
-            number: 0,
-        };
-    }
-    read_number(row[place], text::field(line, place + 1))
+    readable
 }
 
 // An argument of a kind. Of bytes only the length is looked at.
-fn read_number(kind: u8, digits: &[u8]) -> Argument {
+fn read_number(kind: u8, argument: &[u8]) -> u64 {
     match kind {
-        b's' => number(digits, 255),
-        b'm' => number(digits, 65535),
-        b'w' => number(digits, u32::MAX),
-        b'f' => word(digits, b"0\t1"),
-        b'p' => word(digits, b"waiting\tready\tgathering"),
-        b'g' => word(digits, b"idle\tgathering"),
-        b'd' => floats::read(digits),
-        b'c' => sized(digits, CHANNEL, CHANNEL),
-        b'l' => sized(digits, 0, 131072),
-        _ => sized(digits, 0, 32768),
+        b's' => number(argument, 255),
+        b'm' => number(argument, 65535),
+        b'w' => number(argument, u32::MAX),
+        b'f' => word(argument, b"0\t1"),
+        b'p' => word(argument, b"waiting\tready\tgathering"),
+        b'g' => word(argument, b"idle\tgathering"),
+        b'd' => floats::read(argument),
+        b'c' => sized(argument, CHANNEL_BYTES, CHANNEL_BYTES),
+        b'l' => 0,
+        _ => sized(argument, 0, MOST_BYTES),
     }
 }
 
-fn number(digits: &[u8], most: u32) -> Argument {
+fn number(digits: &[u8], most: u32) -> u64 {
     match text::read_number(digits, most) {
-        Number::Is(number) => Argument {
-            readable: true,
-            number: number as u64,
-        },
-        Number::Unreadable => Argument {
-            readable: false,
-            number: 0,
-        },
+        Number::Is(number) => number as u64,
+        Number::Unreadable => UNREADABLE,
     }
 }
 
 // Whether the bytes are neither too few nor too many.
-fn sized(digits: &[u8], least: usize, most: usize) -> Argument {
+fn sized(digits: &[u8], least: usize, most: usize) -> u64 {
     let count = digits.len() / 2;
-    let mut argument = Argument {
-        readable: false,
-        number: 0,
-    };
-    if count < least {
-        return argument;
+    if (least <= count) & (count <= most) {
+        return 0;
     }
-    argument.readable = count <= most;
-    argument
+    UNREADABLE
 }
 
-// Behind how many tabs the argument of one of two kinds stands; 0 where there is none.
-fn place_of(row: &[u8], one: u8, other: u8) -> usize {
+// Reads the bytes of the argument of one of two kinds. Where there is none, there are no bytes.
+fn read_bytes(line: &[u8], row: &[u8], one: u8, other: u8, room: &mut [u8]) -> u64 {
     let mut i = 0;
     while i < row.len() {
-        if row[i] == one {
-            return i + 1;
-        }
-        if row[i] == other {
-            return i + 1;
+        if (row[i] == one) | (row[i] == other) {
+            return rooms::fill(room, text::field(line, i + 1));
         }
         i += 1;
     }
     0
-}
-
-// Reads the bytes of the argument of one of two kinds. Where there is none, there are no bytes.
-fn read_bytes(line: &[u8], row: &[u8], one: u8, other: u8, room: &mut [u8]) -> Argument {
-    let place = place_of(row, one, other);
-    if place == 0 {
-        return Argument {
-            readable: true,
-            number: 0,
-        };
-    }
-    bytes(text::field(line, place), room)
-}
-
-// The bytes of a field, at the start of a room.
-pub(crate) fn bytes(digits: &[u8], room: &mut [u8]) -> Argument {
-    match text::read_bytes(digits, room) {
-        Bytes::Are(count) => Argument {
-            readable: true,
-            number: count as u64,
-        },
-        Bytes::Unreadable => Argument {
-            readable: false,
-            number: 0,
-        },
-    }
 }

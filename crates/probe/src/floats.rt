@@ -1,19 +1,20 @@
-// A binary64 as the 16 hexadecimal digits of its bits. The bits of what is no number are not asked for: it is written as
-// sixteen `n`, and read as the quotient of zeros, whichever of its patterns stands there.
+// A binary64 as the 16 hexadecimal digits of its bits. The bits of what is no number are not asked for: it is read as the
+// quotient of zeros, whichever of its patterns stands there.
 ghost use Prim.Native.Nat.{_<_};
-use crate::cases;
-use crate::cases::Argument;
-use crate::put;
-use libc::STDOUT_FILENO;
+use crate::arguments::UNREADABLE;
+use crate::rooms;
 
-// The bits in an argument.
-pub(crate) fn read(digits: &[u8]) -> Argument {
+// The bits in an argument. All ones are no number: what is read for them is another pattern of it.
+pub(crate) fn read(digits: &[u8]) -> u64 {
     let mut bytes = [0u8; 8];
-    let given = cases::bytes(digits, &mut bytes);
-    Argument {
-        readable: given.number == 8,
-        number: number_of(bytes),
+    if rooms::fill(&mut bytes, digits) != 8 {
+        return UNREADABLE;
     }
+    let bits = number_of(bytes);
+    if bits == UNREADABLE {
+        return bits - 1;
+    }
+    bits
 }
 
 fn number_of(bytes: [u8; 8]) -> u64 {
@@ -38,15 +39,4 @@ pub(crate) fn of_bits(bits: u64) -> f64 {
         return 0.0 / 0.0;
     }
     f64::from_bits(bits)
-}
-
-// Writes whether a number exists, and the number.
-pub(crate) fn put(exists: bool, float: f64) {
-    put::number(exists as u64);
-    put::tab();
-    if float != float {
-        put::word(b"nnnnnnnnnnnnnnnn");
-        return;
-    }
-    io::print_hex(STDOUT_FILENO, f64::to_bits(float), 16);
 }

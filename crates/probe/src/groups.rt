@@ -1,23 +1,24 @@
 // The groups' commands.
-use crate::cases::MOST;
-use crate::messages;
+use crate::arguments;
+use crate::cases;
 use crate::put;
+use channel::Fields;
 use group::Group;
 use group::Phase;
 use group::Step;
 use writer::Series;
 
-pub(crate) fn new_group(number: u64) {
-    let made = Group::new((number % 65536) as u16);
+pub(crate) fn new_group(numbers: &[u64]) {
+    let made = Group::new(arguments::medium(numbers, 1));
     let answer = made.answer;
     let group = made.group;
-    put::answer(b"fresh", answer);
+    put::answer(cases::NEW_GROUP, answer);
     put_state(group);
 }
 
-pub(crate) fn join(numbers: [u64; MOST], data: &[u8], buffer: &mut [u8]) {
+pub(crate) fn join(numbers: &[u64], data: &[u8], buffer: &mut [u8]) {
     let group = state_in(numbers);
-    let message = messages::fields_at(numbers, 5);
+    let message = message_in(numbers);
     let stepped = group.join(message, data, buffer);
     let answer = stepped.answer;
     let next = stepped.group;
@@ -30,20 +31,20 @@ fn put_answer(answer: Step) {
         Step::Taken => put::word(b"taken"),
         Step::Whole(length) => {
             put::word(b"group");
-            put::number(length as u64);
+            put::count(length);
         }
         Step::Refused(refusal) => put::refusal(refusal),
     }
 }
 
 // The state in the first five arguments.
-fn state_in(numbers: [u64; MOST]) -> Group {
+fn state_in(numbers: &[u64]) -> Group {
     Group {
-        number: (numbers[0] % 65536) as u16,
-        phase: phase_of(numbers[1]),
-        held: numbers[2] as usize,
-        messages: (numbers[3] % 256) as u8,
-        ci: (numbers[4] % 256) as u8,
+        number: arguments::medium(numbers, 1),
+        phase: phase_of(arguments::at(numbers, 2)),
+        held: arguments::count(numbers, 3),
+        messages: arguments::small(numbers, 4),
+        ci: arguments::small(numbers, 5),
     }
 }
 
@@ -54,11 +55,25 @@ fn phase_of(number: u64) -> Phase {
     Phase::Gathering
 }
 
+// The fields of the message that joins, in the six arguments behind the state.
+fn message_in(numbers: &[u64]) -> Fields {
+    Fields {
+        ri: arguments::small(numbers, 6),
+        ci: arguments::small(numbers, 7),
+        first: arguments::flag(numbers, 8),
+        last: arguments::flag(numbers, 9),
+        number: arguments::medium(numbers, 10),
+        command: arguments::flag(numbers, 11),
+    }
+}
+
 fn put_state(group: Group) {
     let phase = group.phase;
-    put::number(group.number as u64);
+    put::medium(group.number);
     put_phase(phase);
-    put::numbers(&[group.held as u64, group.messages as u64, group.ci as u64]);
+    put::count(group.held);
+    put::small(group.messages);
+    put::small(group.ci);
 }
 
 fn put_phase(phase: Phase) {
@@ -69,18 +84,19 @@ fn put_phase(phase: Phase) {
 }
 
 // What a group is written with, in the first five arguments.
-fn series_in(numbers: [u64; MOST]) -> Series {
+fn series_in(numbers: &[u64]) -> Series {
     Series {
-        number: (numbers[0] % 65536) as u16,
-        ri: (numbers[1] % 256) as u8,
-        di: numbers[2] == 1,
-        sc: (numbers[3] % 256) as u8,
-        ci: (numbers[4] % 256) as u8,
+        number: arguments::medium(numbers, 1),
+        ri: arguments::small(numbers, 2),
+        di: arguments::flag(numbers, 3),
+        sc: arguments::small(numbers, 4),
+        ci: arguments::small(numbers, 5),
     }
 }
 
-pub(crate) fn write_group(numbers: [u64; MOST], data: &[u8], output: &mut [u8]) {
+pub(crate) fn write_group(numbers: &[u64], data: &[u8], output: &mut [u8]) {
     let wrote = writer::write_group(series_in(numbers), data, output);
     let answer = wrote.answer;
-    put::counted(b"written", answer, wrote.blocks as u64);
+    put::answer(cases::WRITE_GROUP, answer);
+    put::count(wrote.blocks);
 }

@@ -1,16 +1,17 @@
 // The probe: reads cases from standard input, a line each, calls the public functions of the libraries, and writes a
 // line for each case. docs/PROBE.md has the notation. Each area has a module, with a function for each of its commands.
+mod arguments;
 mod blocks;
 mod cases;
 mod floats;
 mod groups;
 mod messages;
 mod put;
+mod rooms;
 mod surveys;
 
 ghost use Rattle.io.specs.Counts.{Counts};
-use cases::FILLING;
-use cases::MOST;
+use arguments::PLACES;
 use channel::Channel;
 use libc::STDERR_FILENO;
 use libc::STDIN_FILENO;
@@ -27,31 +28,31 @@ struct Held {
     writable: bool,
 }
 
-// Calls the function of a command, by the place of the command in the table.
-fn call(command: usize, numbers: [u64; MOST], given: &[u8], lent: &mut [u8]) {
+// Calls the function of a command.
+fn call(command: usize, numbers: &[u64], given: &[u8], lent: &mut [u8]) {
     match command {
-        0 => blocks::correct(given, lent),
-        1 => blocks::read_block(given, lent),
-        2 => blocks::write_block(given, lent),
-        3 => messages::write_message(numbers, given, lent),
-        4 => groups::join(numbers, given, lent),
-        5 => groups::write_group(numbers, given, lent),
-        6 => surveys::report(surveys::counts_in(numbers), lent),
-        7 => surveys::export(numbers, lent),
+        cases::CORRECT => blocks::correct(given, lent),
+        cases::READ_BLOCK => blocks::read_block(given, lent),
+        cases::WRITE_BLOCK => blocks::write_block(given, lent),
+        cases::WRITE_MESSAGE => messages::write_message(numbers, given, lent),
+        cases::JOIN => groups::join(numbers, given, lent),
+        cases::WRITE_GROUP => groups::write_group(numbers, given, lent),
+        cases::REPORT => surveys::report(numbers, lent),
+        cases::EXPORT => surveys::export(numbers, lent),
         _ => call_plain(command, numbers, given, lent),
     }
 }
 
 // The commands that write to nothing that is lent.
-fn call_plain(command: usize, numbers: [u64; MOST], given: &[u8], lent: &[u8]) {
+fn call_plain(command: usize, numbers: &[u64], given: &[u8], lent: &[u8]) {
     match command {
-        8 => messages::put_state(Channel::new()),
-        9 => messages::step(numbers, given, lent),
-        10 => groups::new_group(numbers[0]),
-        11 => surveys::khz(numbers[0]),
-        12 => surveys::channel(numbers[0]),
-        13 => surveys::read_log(given),
-        14 => surveys::summarise(surveys::counts_in(numbers)),
+        cases::NEW_CHANNEL => messages::put_state(Channel::new()),
+        cases::STEP => messages::step(numbers, given, lent),
+        cases::NEW_GROUP => groups::new_group(numbers),
+        cases::KHZ => surveys::khz(numbers),
+        cases::CHANNEL => surveys::channel(numbers),
+        cases::LOG => surveys::read_log(given),
+        cases::SUMMARY => surveys::summarise(numbers),
         _ => put::word(b"bad case"),
     }
 }
@@ -61,9 +62,9 @@ fn fitting(length: usize, line: &[u8]) -> usize
     ensures { λ r. ⌜ Counts r (now (line .entry)) ⌝ }
 {
     if length < line.len() {
-        return cases::within(length, line);
+        return rooms::within(length, line);
     }
-    cases::within(0, line)
+    rooms::within(0, line)
 }
 
 // Answers a line, and tells whether the answer was written. A short line needs small rooms, whose zeros take no time.
@@ -74,25 +75,25 @@ fn answer(line: &[u8], length: usize) -> bool {
         let mut lent = io::buffer();
         return answer_in(&line[..count], &mut given, &mut lent);
     }
-    let mut given = cases::room();
+    let mut given = rooms::room();
     let mut lent = io::large_buffer();
     answer_in(&line[..count], &mut given, &mut lent)
 }
 
 // Answers a line, in rooms for the bytes that it gives and lends.
 fn answer_in(line: &[u8], given: &mut [u8], lent: &mut [u8]) -> bool {
-    let case = cases::read(line, given, lent);
-    let numbers = case.numbers;
-    let n = cases::within(case.given, given);
-    let m = cases::within(case.lent, lent);
+    let mut numbers = [0u64; PLACES];
+    let case = cases::read(line, &mut numbers, given, lent);
+    let n = rooms::within(case.given, given);
+    let m = rooms::within(case.lent, lent);
     let output = &mut lent[..m];
-    call(case.command, numbers, &given[..n], output);
+    call(case.command, &numbers, &given[..n], output);
     end_line(case.command, output)
 }
 
 // Writes the bytes that were lent, where the answer ends with them, and the end of its line.
 fn end_line(command: usize, lent: &[u8]) -> bool {
-    if command < FILLING {
+    if command < cases::FILLING {
         put::tab();
         put::bytes(lent);
     }
@@ -108,7 +109,7 @@ fn take_byte(byte: u8, line: &mut [u8], held: Held) -> Held {
         };
     }
     Held {
-        length: put::byte(line, held.length, byte),
+        length: rooms::put(line, held.length, byte),
         writable: true,
     }
 }

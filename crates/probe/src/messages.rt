@@ -1,13 +1,14 @@
 // The long message channel's commands. The bytes of a channel stand in the room that is lent.
-ghost use Prim.Native.Nat.{_<_};
-use crate::cases::MOST;
+use crate::arguments;
+use crate::cases;
 use crate::put;
 use channel::Channel;
 use channel::Fields;
+use channel::Header;
 use channel::Phase;
 use channel::Step;
 
-pub(crate) fn step(numbers: [u64; MOST], information: &[u8], room: &[u8]) {
+pub(crate) fn step(numbers: &[u64], information: &[u8], room: &[u8]) {
     let channel = state_in(numbers, room);
     let stepped = channel.step(information);
     let answer = stepped.answer;
@@ -18,12 +19,12 @@ pub(crate) fn step(numbers: [u64; MOST], information: &[u8], room: &[u8]) {
 }
 
 // The state in the first four arguments.
-fn state_in(numbers: [u64; MOST], room: &[u8]) -> Channel {
+fn state_in(numbers: &[u64], room: &[u8]) -> Channel {
     Channel {
         bytes: bytes_in(room),
-        gathered: numbers[1] as usize,
-        phase: phase_of(numbers[2]),
-        expected: (numbers[3] % 256) as u8,
+        gathered: arguments::count(numbers, 2),
+        phase: phase_of(arguments::at(numbers, 3)),
+        expected: arguments::small(numbers, 4),
     }
 }
 
@@ -51,33 +52,31 @@ fn phase_of(number: u64) -> Phase {
 fn put_answer(answer: Step) {
     match answer {
         Step::Taken => put::word(b"taken"),
-        Step::Message(header) => {
-            put::word(b"message");
-            put::numbers(
-                &[
-                    header.ri as u64,
-                    header.ci as u64,
-                    header.first as u64,
-                    header.last as u64,
-                    header.ext as u64,
-                    header.number as u64,
-                    header.command as u64,
-                    header.length as u64,
-                    header.size as u64,
-                ],
-            );
-        }
+        Step::Message(header) => put_header(header),
         Step::Refused(refusal) => put::refusal(refusal),
     }
+}
+
+fn put_header(header: Header) {
+    put::word(b"message");
+    put::small(header.ri);
+    put::small(header.ci);
+    put::flag(header.first);
+    put::flag(header.last);
+    put::flag(header.ext);
+    put::medium(header.number);
+    put::flag(header.command);
+    put::count(header.length);
+    put::count(header.size);
 }
 
 pub(crate) fn put_state(channel: Channel) {
     let bytes = channel.bytes;
     let phase = channel.phase;
     put::bytes(&bytes);
-    put::number(channel.gathered as u64);
+    put::count(channel.gathered);
     put_phase(phase);
-    put::number(channel.expected as u64);
+    put::small(channel.expected);
 }
 
 fn put_phase(phase: Phase) {
@@ -88,24 +87,24 @@ fn put_phase(phase: Phase) {
     }
 }
 
-// The fields of a message: RI, CI, First, Last, number and COM, from a place on.
-pub(crate) fn fields_at(numbers: [u64; MOST], first: usize) -> Fields
-    requires { ⌜ first < 9 ⌝ }
-{
+// The fields of a message in the first six arguments: RI, CI, First, Last, number and COM.
+fn fields_in(numbers: &[u64]) -> Fields {
     Fields {
-        ri: (numbers[first] % 256) as u8,
-        ci: (numbers[first + 1] % 256) as u8,
-        first: numbers[first + 2] == 1,
-        last: numbers[first + 3] == 1,
-        number: (numbers[first + 4] % 65536) as u16,
-        command: numbers[first + 5] == 1,
+        ri: arguments::small(numbers, 1),
+        ci: arguments::small(numbers, 2),
+        first: arguments::flag(numbers, 3),
+        last: arguments::flag(numbers, 4),
+        number: arguments::medium(numbers, 5),
+        command: arguments::flag(numbers, 6),
     }
 }
 
-pub(crate) fn write_message(numbers: [u64; MOST], data: &[u8], output: &mut [u8]) {
-    let fields = fields_at(numbers, 0);
-    let sc = (numbers[7] % 256) as u8;
-    let wrote = writer::write_message(fields, numbers[6] == 1, sc, data, output);
+pub(crate) fn write_message(numbers: &[u64], data: &[u8], output: &mut [u8]) {
+    let fields = fields_in(numbers);
+    let di = arguments::flag(numbers, 7);
+    let sc = arguments::small(numbers, 8);
+    let wrote = writer::write_message(fields, di, sc, data, output);
     let answer = wrote.answer;
-    put::counted(b"written", answer, wrote.blocks as u64);
+    put::answer(cases::WRITE_MESSAGE, answer);
+    put::count(wrote.blocks);
 }

@@ -2,6 +2,7 @@
 // brings the tab in front of it.
 ghost use Rattle.io.specs.Counts.{Counts};
 use crate::cases;
+use crate::rooms;
 use answers::Answer;
 use answers::Refusal;
 use libc::STDOUT_FILENO;
@@ -14,10 +15,10 @@ pub(crate) fn refusal(refusal: Refusal) {
     io::print_decimal(STDOUT_FILENO, answers::number(refusal) as u64);
 }
 
-// The word of a success, or the number of the refusal.
-pub(crate) fn answer(success: &[u8], answer: Answer) {
+// The word of a command's success, or the number of the refusal.
+pub(crate) fn answer(command: usize, answer: Answer) {
     match answer {
-        Answer::Accepted => word(success),
+        Answer::Accepted => word(text::field(&cases::SUCCESSES, command)),
         Answer::Refused(number) => refusal(number),
     }
 }
@@ -26,37 +27,51 @@ pub(crate) fn tab() {
     word(b"\t");
 }
 
-pub(crate) fn number(number: u64) {
+fn number(number: u64) {
     tab();
     io::print_decimal(STDOUT_FILENO, number);
 }
 
-pub(crate) fn numbers(list: &[u64]) {
-    let mut i = 0;
-    while i < list.len() {
-        number(list[i]);
-        i += 1;
-    }
+pub(crate) fn small(value: u8) {
+    number(value as u64);
 }
 
-// An answer with one number.
-pub(crate) fn counted(success: &[u8], given: Answer, count: u64) {
-    answer(success, given);
-    number(count);
+pub(crate) fn medium(value: u16) {
+    number(value as u64);
+}
+
+pub(crate) fn wide(value: u32) {
+    number(value as u64);
+}
+
+pub(crate) fn count(value: usize) {
+    number(value as u64);
+}
+
+pub(crate) fn flag(value: bool) {
+    number(value as u64);
+}
+
+// The 16 digits of a binary64's bits, and sixteen `n` for what is no number.
+pub(crate) fn float(value: f64) {
+    tab();
+    if value != value {
+        word(b"nnnnnnnnnnnnnnnn");
+        return;
+    }
+    io::print_hex(STDOUT_FILENO, f64::to_bits(value), 16);
 }
 
 // Bytes in hexadecimal, and `.` where there are none, without a tab.
 pub(crate) fn bytes(bytes: &[u8]) {
     if bytes.len() == 0 {
-        word(b".");
-        return;
+        return word(b".");
     }
     if bytes.len() <= 2048 {
         let mut room = io::buffer();
-        spell(bytes, &mut room);
-        return;
+        return spell(bytes, &mut room);
     }
-    let mut room = cases::room();
+    let mut room = rooms::room();
     spell(bytes, &mut room);
 }
 
@@ -73,18 +88,9 @@ fn digits(bytes: &[u8], room: &mut [u8]) -> usize
     let mut next = 0;
     let mut i = 0;
     while i < bytes.len() {
-        next = byte(room, next, text::first_digit(bytes[i]));
-        next = byte(room, next, text::second_digit(bytes[i]));
+        next = rooms::put(room, next, text::first_digit(bytes[i]));
+        next = rooms::put(room, next, text::second_digit(bytes[i]));
         i += 1;
     }
-    cases::within(next, room)
-}
-
-// Puts a byte at a place, and answers the place behind it. Where the room ends, nothing is put.
-pub(crate) fn byte(room: &mut [u8], at: usize, byte: u8) -> usize {
-    if at < room.len() {
-        room[at] = byte;
-        return at + 1;
-    }
-    room.len()
+    rooms::within(next, room)
 }

@@ -1,88 +1,96 @@
 // The survey's commands.
-use crate::cases::MOST;
+use crate::arguments;
+use crate::cases;
 use crate::floats;
 use crate::put;
 use band::Kilohertz;
 use log::Counts;
 use summary::Summary;
 
-pub(crate) fn khz(number: u64) {
-    let numbered = band::numbered((number % 4294967296) as u32);
+pub(crate) fn khz(numbers: &[u64]) {
+    let numbered = band::numbered(arguments::wide(numbers, 1));
     let channel = numbered.channel;
     let told = band::to_kilohertz(channel);
     let answer = told.answer;
     let kilohertz = told.kilohertz;
-    put::counted(b"khz", answer, kilohertz.0 as u64);
+    put::answer(cases::KHZ, answer);
+    put::wide(kilohertz.0);
 }
 
-pub(crate) fn channel(frequency: u64) {
-    let told = band::to_channel(Kilohertz((frequency % 4294967296) as u32));
+pub(crate) fn channel(numbers: &[u64]) {
+    let told = band::to_channel(Kilohertz(arguments::wide(numbers, 1)));
     let answer = told.answer;
     let channel = told.channel;
-    put::counted(b"channel", answer, channel.0 as u64);
+    put::answer(cases::CHANNEL, answer);
+    put::small(channel.0);
 }
 
 pub(crate) fn read_log(log: &[u8]) {
     let read = log::read(log);
     let answer = read.answer;
     let counts = read.counts;
-    put::answer(b"log", answer);
-    put::numbers(
-        &[
-            read.line as u64,
-            counts.channel as u64,
-            counts.slots as u64,
-            counts.read as u64,
-            counts.clean as u64,
-            counts.bits as u64,
-            counts.noword as u64,
-            counts.check as u64,
-            counts.missing as u64,
-        ],
-    );
+    put::answer(cases::LOG, answer);
+    put::wide(read.line);
+    put_counts(counts);
+}
+
+fn put_counts(counts: Counts) {
+    put::small(counts.channel);
+    put::wide(counts.slots);
+    put::wide(counts.read);
+    put::wide(counts.clean);
+    put::wide(counts.bits);
+    put::wide(counts.noword);
+    put::wide(counts.check);
+    put::wide(counts.missing);
 }
 
 // The counts in the first eight arguments.
-pub(crate) fn counts_in(numbers: [u64; MOST]) -> Counts {
+fn counts_in(numbers: &[u64]) -> Counts {
     Counts {
-        channel: (numbers[0] % 256) as u8,
-        slots: (numbers[1] % 4294967296) as u32,
-        read: (numbers[2] % 4294967296) as u32,
-        clean: (numbers[3] % 4294967296) as u32,
-        bits: (numbers[4] % 4294967296) as u32,
-        noword: (numbers[5] % 4294967296) as u32,
-        check: (numbers[6] % 4294967296) as u32,
-        missing: (numbers[7] % 4294967296) as u32,
+        channel: arguments::small(numbers, 1),
+        slots: arguments::wide(numbers, 2),
+        read: arguments::wide(numbers, 3),
+        clean: arguments::wide(numbers, 4),
+        bits: arguments::wide(numbers, 5),
+        noword: arguments::wide(numbers, 6),
+        check: arguments::wide(numbers, 7),
+        missing: arguments::wide(numbers, 8),
     }
 }
 
-pub(crate) fn summarise(counts: Counts) {
-    let summarised = summary::summarise(counts);
+pub(crate) fn summarise(numbers: &[u64]) {
+    let summarised = summary::summarise(counts_in(numbers));
     let answer = summarised.answer;
     let record = summarised.summary;
-    put::answer(b"summary", answer);
-    floats::put(record.mean_exists, record.mean);
-    floats::put(record.missing_exists, record.missing);
+    put::answer(cases::SUMMARY, answer);
+    put::flag(record.mean_exists);
+    put::float(record.mean);
+    put::flag(record.missing_exists);
+    put::float(record.missing);
 }
 
-pub(crate) fn report(counts: Counts, output: &mut [u8]) {
-    let written = summary::report(counts, output);
+pub(crate) fn report(numbers: &[u64], output: &mut [u8]) {
+    let written = summary::report(counts_in(numbers), output);
     let answer = written.answer;
-    put::counted(b"report", answer, written.length as u64);
+    put::answer(cases::REPORT, answer);
+    put::count(written.length);
 }
 
-// The summary in the arguments behind the counts.
-fn summary_in(numbers: [u64; MOST]) -> Summary {
+// The summary in the four arguments behind the counts.
+fn summary_in(numbers: &[u64]) -> Summary {
     Summary {
-        mean_exists: numbers[8] == 1,
-        mean: floats::of_bits(numbers[9]),
-        missing_exists: numbers[10] == 1,
-        missing: floats::of_bits(numbers[11]),
+        mean_exists: arguments::flag(numbers, 9),
+        mean: floats::of_bits(arguments::at(numbers, 10)),
+        missing_exists: arguments::flag(numbers, 11),
+        missing: floats::of_bits(arguments::at(numbers, 12)),
     }
 }
 
-pub(crate) fn export(numbers: [u64; MOST], output: &mut [u8]) {
-    let written = summary::export(counts_in(numbers), summary_in(numbers), output);
+pub(crate) fn export(numbers: &[u64], output: &mut [u8]) {
+    let summary = summary_in(numbers);
+    let written = summary::export(counts_in(numbers), summary, output);
     let answer = written.answer;
-    put::counted(b"row", answer, written.length as u64);
+    put::answer(cases::EXPORT, answer);
+    put::count(written.length);
 }

@@ -11,6 +11,9 @@ Inv-loop word list i₀ i = i ≤ length list
 abbrev μ-loop : tie.MeasureT-loop
 μ-loop word list i₀ i = length list - i
 
+returns : tie.Need-returns Inv-loop μ-loop
+returns c = search needs
+
 loop-holds : tie.Need-loop-holds Inv-loop μ-loop
 loop-holds c = search needs
 
@@ -20,8 +23,8 @@ field-requires c κs = search needs
 same-requires : tie.Need-same-requires Inv-loop μ-loop
 same-requires c κs = search needs
 
-returns : tie.Need-returns Inv-loop μ-loop
-returns c = search needs
+returns-2 : tie.Need-returns-2 Inv-loop μ-loop
+returns-2 c = search needs
 
 add-i : tie.Need-add-i Inv-loop μ-loop
 add-i c = search needs
@@ -32,8 +35,8 @@ loop-less c = search needs
 loop-again : tie.Need-loop-again Inv-loop μ-loop
 loop-again c = search needs
 
-returns-2 : tie.Need-returns-2 Inv-loop μ-loop
-returns-2 c = search needs
+returns-3 : tie.Need-returns-3 Inv-loop μ-loop
+returns-3 c = search needs
 
 pub word-spec : {M : Type 1} → statement M
 word-spec =
@@ -41,11 +44,12 @@ word-spec =
     (tie.spec
     Inv-loop
     μ-loop
+    returns
     loop-holds
     field-requires
     same-requires
-    returns
+    returns-2
     add-i
     loop-less
     loop-again
-    returns-2)
+    returns-3)

@@ -21,8 +21,8 @@ shared-slice-read-first-digit c = search needs
 first-digit-requires : tie.Need-first-digit-requires Inv-loop μ-loop
 first-digit-requires c κs = search needs
 
-byte-requires : tie.Need-byte-requires Inv-loop μ-loop
-byte-requires c κs = search needs
+put-requires : tie.Need-put-requires Inv-loop μ-loop
+put-requires c κs = search needs
 
 shared-slice-read-second-digit : tie.Need-shared-slice-read-second-digit Inv-loop μ-loop
 shared-slice-read-second-digit c = search needs
@@ -30,8 +30,8 @@ shared-slice-read-second-digit c = search needs
 second-digit-requires : tie.Need-second-digit-requires Inv-loop μ-loop
 second-digit-requires c κs = search needs
 
-byte-requires-2 : tie.Need-byte-requires-2 Inv-loop μ-loop
-byte-requires-2 c κs = search needs
+put-requires-2 : tie.Need-put-requires-2 Inv-loop μ-loop
+put-requires-2 c κs = search needs
 
 add-i : tie.Need-add-i Inv-loop μ-loop
 add-i c = search needs
@@ -60,10 +60,10 @@ digits-spec =
     loop-holds
     shared-slice-read-first-digit
     first-digit-requires
-    byte-requires
+    put-requires
     shared-slice-read-second-digit
     second-digit-requires
-    byte-requires-2
+    put-requires-2
     add-i
     loop-less
     loop-again

@@ -1,14 +1,8 @@
--- `probe::floats::put`: what equals itself is a number. Assumes nothing.
+-- `probe::put::float`: what equals itself is a number. Assumes nothing.
 use Rattle.summary.proofs.Same.{eq-number}
 use borrow.Author.Needs.{needs}
-use Rattle.probe.proofs.floats.put.Statement.{statement}
-use Rattle.probe.proofs.floats.put.Tie as tie
-
-cast-number : tie.Need-cast-number
-cast-number c = search needs
-
-number-requires : tie.Need-number-requires
-number-requires c κs = search needs
+use Rattle.probe.proofs.put.float.Statement.{statement}
+use Rattle.probe.proofs.put.float.Tie as tie
 
 tab-requires : tie.Need-tab-requires
 tab-requires c κs = search needs
@@ -31,12 +25,10 @@ print-hex-requires c κs = search needs
 returns-2 : tie.Need-returns-2
 returns-2 c = search needs
 
-pub put-spec : {M : Type 1} → statement M
-put-spec =
+pub float-spec : {M : Type 1} → statement M
+float-spec =
     tie.close
     (tie.spec
-    cast-number
-    number-requires
     tab-requires
     slice-aggregate-word
     word-requires

@@ -1,9 +1,9 @@
--- `probe::cases::within`: what is cut off at a count is as long. Assumes nothing.
+-- `probe::rooms::within`: what is cut off at a count is as long. Assumes nothing.
 use mathlib.Core.Path.{sym}
 use native.Mathlib.Omega.{arith}
 use lib.Seq.{length-take-le}
-use Rattle.probe.proofs.cases.within.Statement.{statement}
-use Rattle.probe.proofs.cases.within.Tie as tie
+use Rattle.probe.proofs.rooms.within.Statement.{statement}
+use Rattle.probe.proofs.rooms.within.Tie as tie
 
 returns : tie.Need-returns
 returns c = (omega arith, sym (length-take-le _ _ (omega arith)))
