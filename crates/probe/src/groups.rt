@@ -1,8 +1,8 @@
 // The groups' commands.
 use crate::arguments;
 use crate::cases;
+use crate::messages;
 use crate::put;
-use channel::Fields;
 use group::Group;
 use group::Phase;
 use group::Step;
@@ -18,7 +18,7 @@ pub(crate) fn new_group(numbers: &[u64]) {
 
 pub(crate) fn join(numbers: &[u64], data: &[u8], buffer: &mut [u8]) {
     let group = state_in(numbers);
-    let message = message_in(numbers);
+    let message = messages::fields_from(numbers, 6);
     let stepped = group.join(message, data, buffer);
     let answer = stepped.answer;
     let next = stepped.group;
@@ -53,18 +53,6 @@ fn phase_of(number: u64) -> Phase {
         return Phase::Idle;
     }
     Phase::Gathering
-}
-
-// The fields of the message that joins, in the six arguments behind the state.
-fn message_in(numbers: &[u64]) -> Fields {
-    Fields {
-        ri: arguments::small(numbers, 6),
-        ci: arguments::small(numbers, 7),
-        first: arguments::flag(numbers, 8),
-        last: arguments::flag(numbers, 9),
-        number: arguments::medium(numbers, 10),
-        command: arguments::flag(numbers, 11),
-    }
 }
 
 fn put_state(group: Group) {

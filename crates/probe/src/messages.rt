@@ -1,4 +1,5 @@
 // The long message channel's commands. The bytes of a channel stand in the room that is lent.
+ghost use Prim.Native.Nat.{_<_};
 use crate::arguments;
 use crate::cases;
 use crate::put;
@@ -87,20 +88,22 @@ fn put_phase(phase: Phase) {
     }
 }
 
-// The fields of a message in the first six arguments: RI, CI, First, Last, number and COM.
-fn fields_in(numbers: &[u64]) -> Fields {
+// The fields of a message in six arguments from a place on: RI, CI, First, Last, number and COM.
+pub(crate) fn fields_from(numbers: &[u64], first: usize) -> Fields
+    requires { ⌜ first < 14 ⌝ }
+{
     Fields {
-        ri: arguments::small(numbers, 1),
-        ci: arguments::small(numbers, 2),
-        first: arguments::flag(numbers, 3),
-        last: arguments::flag(numbers, 4),
-        number: arguments::medium(numbers, 5),
-        command: arguments::flag(numbers, 6),
+        ri: arguments::small(numbers, first),
+        ci: arguments::small(numbers, first + 1),
+        first: arguments::flag(numbers, first + 2),
+        last: arguments::flag(numbers, first + 3),
+        number: arguments::medium(numbers, first + 4),
+        command: arguments::flag(numbers, first + 5),
     }
 }
 
 pub(crate) fn write_message(numbers: &[u64], data: &[u8], output: &mut [u8]) {
-    let fields = fields_in(numbers);
+    let fields = fields_from(numbers, 1);
     let di = arguments::flag(numbers, 7);
     let sc = arguments::small(numbers, 8);
     let wrote = writer::write_message(fields, di, sc, data, output);
