@@ -2,6 +2,9 @@
 ghost use mathlib.Core.Path.{_≡_};
 ghost use Rattle.answers.specs.Numbers.{numberOf};
 
+// The information of a block, in bytes: what the block reader hands out and the channel takes.
+pub const INFORMATION_BYTES: usize = 22;
+
 // Why something was refused. A success has no number: its name stands in the answer of each function.
 pub enum Refusal {
     WrongLength,

@@ -7,19 +7,19 @@ use Rattle.band.specs.declared.Channel.{Channel}
 use Rattle.band.specs.declared.ChannelAnswer.{ChannelAnswer}
 use Rattle.band.specs.declared.Kilohertz.{Kilohertz}
 use Rattle.band.specs.declared.KilohertzAnswer.{KilohertzAnswer}
-use Rattle.band.specs.Band.{Told, toldChannel, toldKilohertz, isChannel, numberedOf, kilohertzOf, channelOf}
+use Rattle.band.specs.Band.{ToldNumber, toldChannel, toldKilohertz, isChannel, numberedOf, kilohertzOf, channelOf}
 
 -- what is told determines the answer, of a channel and of a frequency
 channel-told : (a b : ChannelAnswer) → toldChannel a ≡ toldChannel b → a ≡ b
 channel-told a b e =
-    let p = paper-once (a .answer) (b .answer) (ap (λ (t : Told). t .answer) e) in
-    let q = ap (λ (t : Told). t .number) e in
+    let p = paper-once (a .answer) (b .answer) (ap (λ (t : ToldNumber). t .answer) e) in
+    let q = ap (λ (t : ToldNumber). t .number) e in
     λ i. record { answer = p i; channel = record { 0 = q i } }
 
 kilohertz-told : (a b : KilohertzAnswer) → toldKilohertz a ≡ toldKilohertz b → a ≡ b
 kilohertz-told a b e =
-    let p = paper-once (a .answer) (b .answer) (ap (λ (t : Told). t .answer) e) in
-    let q = ap (λ (t : Told). t .number) e in
+    let p = paper-once (a .answer) (b .answer) (ap (λ (t : ToldNumber). t .answer) e) in
+    let q = ap (λ (t : ToldNumber). t .number) e in
     λ i. record { answer = p i; kilohertz = record { 0 = q i } }
 
 -- `numbered`

@@ -12,7 +12,7 @@ use lib.Seq.{ext-getD, getD-take, getD-drop, length-take-le}
 use Rattle.gf2.proofs.Bits.{bit-lt}
 use Rattle.gf2.proofs.Lists.{Filled, length-rowFrom, getD-rowFrom}
 use Rattle.gf2.specs.Poly.{bit}
-use Rattle.block.specs.Bytes.{AreBytes, bitOf, rowOf, packed}
+use Rattle.block.specs.Bytes.{AreBytes, bitOf, rowOf, byteOf}
 
 pub length-rowOf : (bytes : List ℕ) → length (rowOf bytes) ≡ 8 * length bytes
 unfolding rowOf
@@ -26,23 +26,23 @@ getD-rowOf bytes p h = getD-rowFrom (λ q. bitOf (getD bytes (q / 8) 0) (q % 8))
 halved : (x k : ℕ) → x / 2 / 2 ^ k ≡ x / 2 ^ suc k
 halved x k = div-div-eq-div-mul x 2 (2 ^ k) ∙ ap (λ (m : ℕ). x / m) (sym (pow-succ' 2 k))
 
-bitOf-packed : (bits : List Bool) (k : ℕ) → bitOf (packed bits) k ≡ getD bits k false
+bitOf-packed : (bits : List Bool) (k : ℕ) → bitOf (byteOf bits) k ≡ getD bits k false
 unfolding bitOf
 bitOf-packed [] k = ap (λ (n : ℕ). eqb (n % 2) 1) (zero-div (2 ^ k))
 bitOf-packed (true ∷ bits) zero = ap (λ (n : ℕ). eqb n 1) odd
   where
-    odd : (1 + 2 * packed bits) / 2 ^ 0 % 2 ≡ 1
+    odd : (1 + 2 * byteOf bits) / 2 ^ 0 % 2 ≡ 1
     odd = omega arith
 bitOf-packed (false ∷ bits) zero = ap (λ (n : ℕ). eqb n 1) even
   where
-    even : (0 + 2 * packed bits) / 2 ^ 0 % 2 ≡ 0
+    even : (0 + 2 * byteOf bits) / 2 ^ 0 % 2 ≡ 0
     even = omega arith
-bitOf-packed (b ∷ bits) (suc k) = ap (λ (n : ℕ). eqb (n % 2) 1) (sym (halved (bit b + 2 * packed bits) k) ∙ ap (λ (n : ℕ). n / 2 ^ k) half) ∙ bitOf-packed bits k
+bitOf-packed (b ∷ bits) (suc k) = ap (λ (n : ℕ). eqb (n % 2) 1) (sym (halved (bit b + 2 * byteOf bits) k) ∙ ap (λ (n : ℕ). n / 2 ^ k) half) ∙ bitOf-packed bits k
   where
-    half : (bit b + 2 * packed bits) / 2 ≡ packed bits
+    half : (bit b + 2 * byteOf bits) / 2 ≡ byteOf bits
     half = omega (arith, bit-lt b)
 
-pub packed-lt : (n : ℕ) (bits : List Bool) → length bits ≤ n → packed bits < 2 ^ n
+pub packed-lt : (n : ℕ) (bits : List Bool) → length bits ≤ n → byteOf bits < 2 ^ n
 packed-lt zero [] h = omega arith
 packed-lt zero (b ∷ bits) h = absurd (omega arith)
 packed-lt (suc n) [] h = omega (arith, pow-succ' 2 n, packed-lt n [] (omega arith))
@@ -50,7 +50,7 @@ packed-lt (suc n) (b ∷ bits) h = omega (arith, pow-succ' 2 n, packed-lt n bits
 
 -- bytes filled from a row have its leading places as their row
 pub bytes-filled : (row : List Bool) (bytes : List ℕ) (k : ℕ) → 8 * length bytes ≤ length row → length bytes ≤ k
-    → Filled 0 (λ i. packed (take 8 (drop (8 * i) row))) bytes k → rowOf bytes ≡ take (8 * length bytes) row
+    → Filled 0 (λ i. byteOf (take 8 (drop (8 * i) row))) bytes k → rowOf bytes ≡ take (8 * length bytes) row
 bytes-filled row bytes k long done filled =
     ext-getD false (rowOf bytes) (take (8 * length bytes) row) (length-rowOf bytes ∙ sym (length-take-le (8 * length bytes) row long))
     (λ p h. let here : p < 8 * length bytes = omega (arith, length-rowOf bytes) in

@@ -13,7 +13,7 @@ use Rattle.code.specs.Code.{distance}
 use Rattle.code.specs.Vote.{parityOver, sumOver, checkPositions}
 use Rattle.code.proofs.Sums.{Below}
 use Rattle.code.proofs.Computed.{positions-below, positions-length}
-use Rattle.block.specs.Bytes.{packed}
+use Rattle.block.specs.Bytes.{byteOf}
 use Rattle.block.proofs.Bytes.{packed-lt}
 
 -- a check position is on the circle
@@ -57,7 +57,7 @@ module _ (row word : List Bool) (p n whole : ℕ) (inv : n + distance (drop p ro
 
 -- the byte of eight places, from the last of them back
 pub byte-turn : (row : List Bool) (at j x v : ℕ) → 0 < j → j ≤ 8 → at + j ≤ length row → x ≡ bit (getD row (at + (j - 1)) false)
-    → v ≡ packed (take (8 - j) (drop (at + j) row)) → x + 2 * v ≡ packed (take (8 - (j - 1)) (drop (at + (j - 1)) row))
+    → v ≡ byteOf (take (8 - j) (drop (at + j) row)) → x + 2 * v ≡ byteOf (take (8 - (j - 1)) (drop (at + (j - 1)) row))
 byte-turn row at j x v h₀ h₈ hr ex ev = omega (arith, here)
   where
     more : 8 - (j - 1) ≡ 8 - j + 1
@@ -69,8 +69,8 @@ byte-turn row at j x v h₀ h₈ hr ex ev = omega (arith, here)
     below : at + (j - 1) < length row
     below = omega arith
 
-    here : packed (take (8 - (j - 1)) (drop (at + (j - 1)) row)) ≡ bit (getD row (at + (j - 1)) false) + 2 * packed (take (8 - j) (drop (at + j) row))
+    here : byteOf (take (8 - (j - 1)) (drop (at + (j - 1)) row)) ≡ bit (getD row (at + (j - 1)) false) + 2 * byteOf (take (8 - j) (drop (at + j) row))
     here = rw (more, add-one (8 - j), drop-one row (at + (j - 1)) false below, next)
 
-pub byte-small : (j : ℕ) (bits : List Bool) → 0 < j → packed (take (8 - j) bits) < 128
+pub byte-small : (j : ℕ) (bits : List Bool) → 0 < j → byteOf (take (8 - j) bits) < 128
 byte-small j bits h = packed-lt 7 (take (8 - j) bits) (omega (arith, length-take (8 - j) bits))

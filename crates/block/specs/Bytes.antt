@@ -19,6 +19,6 @@ unfoldable pub rowOf : List ℕ → List Bool
 rowOf bytes = rowFrom (λ p. bitOf (getD bytes (p / 8) 0) (p % 8)) 0 (8 * length bytes)
 
 -- the number with these bits, lowest weight first
-abbrev pub packed : List Bool → ℕ
-packed [] = 0
-packed (b ∷ bits) = bit b + 2 * packed bits
+abbrev pub byteOf : List Bool → ℕ
+byteOf [] = 0
+byteOf (b ∷ bits) = bit b + 2 * byteOf bits

@@ -14,14 +14,12 @@ mod nearest;
 mod rows;
 
 use answers::Answer;
+pub use answers::INFORMATION_BYTES;
 use answers::Refusal;
 use nearest::Found;
 
 // A block without its BIC, in bytes.
 pub const BLOCK_BYTES: usize = 34;
-
-// The information of a block, in bytes.
-pub const INFORMATION_BYTES: usize = 22;
 
 // What the corrector and the block reader answer: the count is the number of places in which the code word differs from what was received.
 pub struct Corrected {

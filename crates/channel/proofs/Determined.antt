@@ -5,7 +5,7 @@ use mathlib.Core.List.{List}
 use native.Mathlib.Omega.{arith}
 use Rattle.answers.specs.Numbers.{numberOf}
 use Rattle.answers.proofs.Determined.{refusal-once}
-use Rattle.channel.specs.Answers.{outcome, Left, paper}
+use Rattle.channel.specs.Answers.{outcome, ChannelAfter, toldStep}
 use Rattle.channel.specs.State.{fresh, stepOf}
 use Rattle.channel.specs.declared.Channel.{Channel}
 use Rattle.channel.specs.declared.Step.{Step}
@@ -28,9 +28,9 @@ outcome-once (Refused r) (Message h) e = let z : _≡_ {A = ℕ} 0 1 = cc in abs
 outcome-once (Refused r) (Refused s) e = let n : numberOf r ≡ numberOf s = cc in ap Refused (refusal-once r s n)
 
 -- `Channel::step`
-pub step-once : (c : Channel) (information : List ℕ) (r s : Stepped) → paper r ≡ stepOf c information → paper s ≡ stepOf c information → r ≡ s
+pub step-once : (c : Channel) (information : List ℕ) (r s : Stepped) → toldStep r ≡ stepOf c information → toldStep s ≡ stepOf c information → r ≡ s
 step-once c information r s p q =
     let e = p ∙ sym q in
-    let answer = outcome-once (r .answer) (s .answer) (ap (λ (l : Left). l .answer) e) in
-    let channel = ap (λ (l : Left). l .channel) e in
+    let answer = outcome-once (r .answer) (s .answer) (ap (λ (l : ChannelAfter). l .answer) e) in
+    let channel = ap (λ (l : ChannelAfter). l .channel) e in
     λ i. record { answer = answer i; channel = channel i }

@@ -8,7 +8,7 @@ use native.Mathlib.Omega.{arith}
 use lib.Dec.{eqb}
 use Rattle.header.specs.Check.{check}
 use Rattle.header.specs.Fields.{total}
-use Rattle.channel.specs.Layer4.{only, sizeOf, layer4, opened, openedAt, extOf}
+use Rattle.channel.specs.Layer4.{whereExt, sizeOf, layer4, opened, openedAt, extOf}
 use Rattle.channel.specs.declared.Header.{Header}
 use Rattle.channel.specs.declared.layer4.Opened.{Opened}
 use Rattle.channel.proofs.Laws.{check-at}
@@ -41,7 +41,7 @@ taken ext x size upper =
       size = size;
     }
 
-places : (ext : Bool) (h : ℕ) → taken ext (h / 64) (sizeOf ext) (only ext (h / 64 / 8192 % 32)) ≡ opened ext h .header
+places : (ext : Bool) (h : ℕ) → taken ext (h / 64) (sizeOf ext) (whereExt ext (h / 64 / 8192 % 32)) ≡ opened ext h .header
 unfolding opened
 places true h =
     let d = div-div-eq-div-mul (h / 64) (2 ^ 18) in
@@ -50,17 +50,17 @@ places false h =
     let d = div-div-eq-div-mul (h / 64) (2 ^ 10) in
     rw (d 16384, d 4096, d 2048, d 1024, div-one, mod-one)
 
-pub taken-opened : (ext : Bool) (h size upper : ℕ) → size ≡ sizeOf ext → upper ≡ only ext (h / 64 / 8192 % 32) → taken ext (h / 64) size upper ≡ opened ext h .header
+pub taken-opened : (ext : Bool) (h size upper : ℕ) → size ≡ sizeOf ext → upper ≡ whereExt ext (h / 64 / 8192 % 32) → taken ext (h / 64) size upper ≡ opened ext h .header
 taken-opened ext h size upper s u = (λ i. taken ext (h / 64) (s i) (u i)) ∙ places ext h
 
 -- the rest, with RFA and the check k as the code has them
-rfa-place : (ext : Bool) (h : ℕ) → only ext (h / 64 / 1024 % 8) ≡ opened ext h .rfa
+rfa-place : (ext : Bool) (h : ℕ) → whereExt ext (h / 64 / 1024 % 8) ≡ opened ext h .rfa
 unfolding opened
 rfa-place true h = refl
 rfa-place false h = rw mod-one
 
 module _ (ext : Bool) (h size rfa k : ℕ) (m : Header) (s : size ≡ sizeOf ext) (l : h < 2 ^ (8 * size)) (is : m ≡ opened ext h .header)
-    (r : rfa ≡ only ext (h / 64 / 1024 % 8)) (e : k ≡ check 64 (h / 64)) where
+    (r : rfa ≡ whereExt ext (h / 64 / 1024 % 8)) (e : k ≡ check 64 (h / 64)) where
   pub parted-opened : _≡_ {A = Opened} (record { header = m; rfa = rfa; caf = eqb (h / 64 / 256 % 2) 1; checked = eqb k (h % 64) }) (opened ext h)
   unfolding opened
   parted-opened =

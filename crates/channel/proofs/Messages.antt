@@ -9,7 +9,7 @@ use lib.ListN.{length, drop}
 use Rattle.answers.specs.Rules.{unless}
 use Rattle.answers.proofs.Rules.{unless-and}
 use Rattle.channel.specs.Answers.{Outcome, message, refused}
-use Rattle.channel.specs.Layer4.{rightForm, blocksFor, zeros, openedAt, tested, messageOf}
+use Rattle.channel.specs.Layer4.{rightForm, blocksFor, isPadding, openedAt, tested, messageOf}
 use Rattle.channel.specs.declared.layer4.Opened.{Opened}
 use Rattle.channel.proofs.Headers.{openedAt-room}
 
@@ -25,7 +25,7 @@ abbrev pub endOf : Opened → ℕ
 endOf o = o .header .size + o .header .length
 
 abbrev pub filled : Opened → List ℕ → Bool
-filled o bytes = eqb (blocksFor (endOf o) * 20) (length bytes) && zeros (drop (endOf o) bytes)
+filled o bytes = eqb (blocksFor (endOf o) * 20) (length bytes) && isPadding (drop (endOf o) bytes)
 
 module _ (bytes : List ℕ) (o : Opened) (is : o ≡ openedAt bytes) where
   pub room : (o .header .size ≤ 5) × (o .header .length ≤ 255)
@@ -35,7 +35,7 @@ module _ (bytes : List ℕ) (o : Opened) (is : o ≡ openedAt bytes) where
       (unless (leb (endOf o) 260) (refused 14) (unless (filled o bytes) (refused 7) (message (o .header))))))
   unfolding messageOf tested
   in-five =
-      let last = unless-and {A = Outcome} (eqb (blocksFor (endOf o) * 20) (length bytes)) (zeros (drop (endOf o) bytes)) (refused 7) (message (o .header)) in
+      let last = unless-and {A = Outcome} (eqb (blocksFor (endOf o) * 20) (length bytes)) (isPadding (drop (endOf o) bytes)) (refused 7) (message (o .header)) in
       ap (λ (p : Opened). tested p bytes) (sym is)
       ∙ ap (λ (t : Outcome). unless (not (o .caf)) (refused 6) (unless (o .checked) (refused 4) t))
       (unless-and (eqb (o .rfa) 0) (rightForm (o .header .ext) (o .header .number)) (refused 6) _

@@ -10,16 +10,16 @@ use lib.ListN.{length, drop}
 use lib.Seq.{paste}
 use Rattle.answers.proofs.Rules.{unless-elim}
 use Rattle.header.specs.Fields.{field, holds}
-use Rattle.channel.specs.Answers.{Left}
+use Rattle.channel.specs.Answers.{ChannelAfter}
 use Rattle.channel.specs.Layer3.{layer3, headerOf, lfOf, scOf}
-use Rattle.channel.specs.State.{channelOf, fresh, keepsRule, asWaiting, joined, followed, inPhase, advanced, stepOf}
+use Rattle.channel.specs.State.{channelWith, fresh, keepsRule, asWaiting, afterJoining, followed, inPhase, advanced, stepOf}
 use Rattle.channel.specs.declared.Channel.{Channel}
 use Rattle.channel.specs.declared.Phase.{Phase}
 use Rattle.channel.specs.declared.Phase.the-variants.{Waiting, Ready, Gathering}
 use Rattle.channel.proofs.Laws.{rule-bytes}
 
 -- the state that a block without LF leaves keeps the rule
-pub next-rule : (bytes : List ℕ) (n sc : ℕ) → n + 20 ≤ 260 → n % 20 ≡ 0 → keepsRule (channelOf bytes (n + 20) Gathering ((sc + 1) % 16)) ≡ true
+pub next-rule : (bytes : List ℕ) (n sc : ℕ) → n + 20 ≤ 260 → n % 20 ≡ 0 → keepsRule (channelWith bytes (n + 20) Gathering ((sc + 1) % 16)) ≡ true
 unfolding keepsRule
 next-rule bytes n sc h k =
     let a : (sc + 1) % 16 ≤ 15 = omega arith in
@@ -28,11 +28,11 @@ next-rule bytes n sc h k =
     simp (le-leb _ _ a, le-leb _ _ b, le-leb _ _ h, eq-eqb _ _ d)
 
 -- and the state that one with LF leaves
-pub ready-rule : (bytes : List ℕ) (sc : ℕ) → keepsRule (channelOf bytes 0 Ready (sc % 16)) ≡ true
+pub ready-rule : (bytes : List ℕ) (sc : ℕ) → keepsRule (channelWith bytes 0 Ready (sc % 16)) ≡ true
 unfolding keepsRule
 ready-rule bytes sc = let a : sc % 16 ≤ 15 = omega arith in simp (le-leb _ _ a)
 
-abbrev Kept : Left → Type 0
+abbrev Kept : ChannelAfter → Type 0
 Kept l = keepsRule (l .channel) ≡ true
 
 waiting-kept : (c : Channel) (lf : Bool) (sc : ℕ) → keepsRule (asWaiting c lf sc) ≡ true
@@ -40,8 +40,8 @@ unfolding asWaiting keepsRule
 waiting-kept c true sc = ready-rule (c .bytes) (sc + 1)
 waiting-kept c false sc = refl
 
-joined-kept : (bytes : List ℕ) (n : ℕ) (lf : Bool) (sc : ℕ) → n + 20 ≤ 260 → n % 20 ≡ 0 → Kept (joined bytes (n + 20) lf ((sc + 1) % 16))
-unfolding joined
+joined-kept : (bytes : List ℕ) (n : ℕ) (lf : Bool) (sc : ℕ) → n + 20 ≤ 260 → n % 20 ≡ 0 → Kept (afterJoining bytes (n + 20) lf ((sc + 1) % 16))
+unfolding afterJoining
 joined-kept bytes n true sc h k = ready-rule bytes (sc + 1)
 joined-kept bytes n false sc h k = next-rule bytes n sc h k
 

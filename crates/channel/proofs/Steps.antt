@@ -11,9 +11,9 @@ use lib.ListN.{length, drop}
 use lib.Seq.{paste}
 use Rattle.answers.specs.Rules.{unless}
 use Rattle.header.specs.Check.{check}
-use Rattle.channel.specs.Answers.{refused, leaves}
+use Rattle.channel.specs.Answers.{refused, channelAfter}
 use Rattle.channel.specs.Layer3.{headerOf}
-use Rattle.channel.specs.State.{keepsRule, asWaiting, joined, followed, inPhase, inStep, advanced, stepOf}
+use Rattle.channel.specs.State.{keepsRule, asWaiting, afterJoining, followed, inPhase, inStep, advanced, stepOf}
 use Rattle.channel.specs.declared.Channel.{Channel}
 use Rattle.channel.specs.declared.Phase.{Phase}
 use Rattle.channel.specs.declared.Phase.the-variants.{Waiting, Ready, Gathering}
@@ -22,7 +22,7 @@ use Rattle.channel.proofs.Laws.{check-at}
 module _ (c : Channel) (information : List ℕ) (rule : keepsRule c ≡ true) (long : length information ≡ 22) where
   -- the header h of the block
   module _ (h : ℕ) (is : headerOf information ≡ h) where
-    pub other-channel : (h / 64 / 64 % 16 ≡ 10 → ⊥) → leaves (refused 5) c ≡ stepOf c information
+    pub other-channel : (h / 64 / 64 % 16 ≡ 10 → ⊥) → channelAfter (refused 5) c ≡ stepOf c information
     unfolding stepOf
     other-channel n = rw (rule, eq-eqb _ _ long, is, ne-eqb _ _ n)
 
@@ -30,7 +30,7 @@ module _ (c : Channel) (information : List ℕ) (rule : keepsRule c ≡ true) (l
       ten : check 64 (h / 64) ≡ check 10 (h / 64)
       ten = check-at 10 (h / 64) (omega arith) (omega arith)
 
-      pub wrong-check : (check 64 (h / 64) ≡ h % 64 → ⊥) → leaves (refused 4) c ≡ stepOf c information
+      pub wrong-check : (check 64 (h / 64) ≡ h % 64 → ⊥) → channelAfter (refused 4) c ≡ stepOf c information
       unfolding stepOf
       wrong-check n =
           let m : eqb (check 10 (h / 64)) (h % 64) ≡ false = rw ten at (ne-eqb _ _ n) in
@@ -44,22 +44,22 @@ module _ (c : Channel) (information : List ℕ) (rule : keepsRule c ≡ true) (l
 
 -- a block with a right header: the tests by the SC, and the joining
 module _ (c : Channel) (lf : Bool) (sc : ℕ) (twenty : List ℕ) where
-  by-phase : (p : Phase) → inPhase p c lf sc twenty ≡ unless (inStep p (c .expected) sc) (leaves (refused 8) (asWaiting c lf sc))
-      (unless (ltb (c .gathered) 260) (leaves (refused 9) (asWaiting c lf sc)) (joined (paste (c .bytes) (c .gathered) twenty 20) (c .gathered + 20) lf ((sc + 1) % 16)))
+  by-phase : (p : Phase) → inPhase p c lf sc twenty ≡ unless (inStep p (c .expected) sc) (channelAfter (refused 8) (asWaiting c lf sc))
+      (unless (ltb (c .gathered) 260) (channelAfter (refused 9) (asWaiting c lf sc)) (afterJoining (paste (c .bytes) (c .gathered) twenty 20) (c .gathered + 20) lf ((sc + 1) % 16)))
   unfolding followed
   by-phase Waiting = refl
   by-phase Ready = refl
   by-phase Gathering = refl
 
-  pub out-of-step : inStep (c .phase) (c .expected) sc ≡ false → leaves (refused 8) (asWaiting c lf sc) ≡ advanced c lf sc twenty
+  pub out-of-step : inStep (c .phase) (c .expected) sc ≡ false → channelAfter (refused 8) (asWaiting c lf sc) ≡ advanced c lf sc twenty
   unfolding advanced
   out-of-step e = sym (by-phase (c .phase) ∙ rw e)
 
   module _ (expected : inStep (c .phase) (c .expected) sc ≡ true) where
-    pub too-many : 260 ≤ c .gathered → leaves (refused 9) (asWaiting c lf sc) ≡ advanced c lf sc twenty
+    pub too-many : 260 ≤ c .gathered → channelAfter (refused 9) (asWaiting c lf sc) ≡ advanced c lf sc twenty
     unfolding advanced
     too-many h = sym (by-phase (c .phase) ∙ rw (expected, le-ltb _ _ h))
 
-    pub joins-on : c .gathered < 260 → joined (paste (c .bytes) (c .gathered) twenty 20) (c .gathered + 20) lf ((sc + 1) % 16) ≡ advanced c lf sc twenty
+    pub joins-on : c .gathered < 260 → afterJoining (paste (c .bytes) (c .gathered) twenty 20) (c .gathered + 20) lf ((sc + 1) % 16) ≡ advanced c lf sc twenty
     unfolding advanced
     joins-on h = sym (by-phase (c .phase) ∙ rw (expected, lt-ltb _ _ h))

@@ -18,12 +18,12 @@ outcome (Message header) = message header
 outcome (Refused refusal) = refused (numberOf refusal)
 
 -- an answer, and the channel that it leaves
-pub record Left : Type 0 where
+pub record ChannelAfter : Type 0 where
   pub answer : Outcome
   pub channel : Channel
 
-abbrev pub leaves : Outcome → Channel → Left
-leaves answer channel = record { answer = answer; channel = channel }
+abbrev pub channelAfter : Outcome → Channel → ChannelAfter
+channelAfter answer channel = record { answer = answer; channel = channel }
 
-abbrev pub paper : Stepped → Left
-paper r = leaves (outcome (r .answer)) (r .channel)
+abbrev pub toldStep : Stepped → ChannelAfter
+toldStep r = channelAfter (outcome (r .answer)) (r .channel)

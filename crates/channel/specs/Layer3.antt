@@ -4,14 +4,14 @@ use Prim.Native.Nat.{ℕ}
 use mathlib.Core.Bool.{Bool}
 use mathlib.Core.List.{List, [], _∷_}
 use lib.ListN.{take}
-use Rattle.header.specs.Fields.{field, flag, numberOf}
+use Rattle.header.specs.Fields.{field, flag, headerFrom}
 
 abbrev pub layer3 : List ℕ
 layer3 = 4 ∷ 1 ∷ 1 ∷ 4 ∷ []
 
 -- the header of an information block; its fields are 0 SI/LCh, 1 DI, 2 LF, 3 SC
 abbrev pub headerOf : List ℕ → ℕ
-headerOf information = numberOf (take 2 information)
+headerOf information = headerFrom (take 2 information)
 
 abbrev pub lfOf : ℕ → Bool
 lfOf h = flag layer3 2 h

@@ -5,18 +5,18 @@ use mathlib.Core.List.{List, [], _∷_}
 use lib.Dec.{eqb, leb}
 use lib.ListN.{length, getD, take, drop}
 use Rattle.answers.specs.Rules.{unless}
-use Rattle.header.specs.Fields.{total, field, flag, holds, numberOf}
+use Rattle.header.specs.Fields.{total, field, flag, holds, headerFrom}
 use Rattle.channel.specs.Answers.{Outcome, message, refused}
 use Rattle.channel.specs.declared.layer4.Opened.{Opened}
 
 -- where EXT is 1; a field that a header does not have is 0 bits wide
-abbrev pub only : Bool → ℕ → ℕ
-only ext width = cond ext width 0
+abbrev pub whereExt : Bool → ℕ → ℕ
+whereExt ext width = cond ext width 0
 
 -- RI 2, CI 2, First 1, Last 1, EXT 1, ADD 9, then where EXT is 1: EXT ADD 5 and RFA 3; COM 1, CAF 1, data length 8; and the check:
 -- places 0 RI, 1 CI, 2 First, 3 Last, 4 EXT, 5 ADD, 6 EXT ADD, 7 RFA, 8 COM, 9 CAF, 10 data length
 abbrev pub layer4 : Bool → List ℕ
-layer4 ext = 2 ∷ 2 ∷ 1 ∷ 1 ∷ 1 ∷ 9 ∷ only ext 5 ∷ only ext 3 ∷ 1 ∷ 1 ∷ 8 ∷ []
+layer4 ext = 2 ∷ 2 ∷ 1 ∷ 1 ∷ 1 ∷ 9 ∷ whereExt ext 5 ∷ whereExt ext 3 ∷ 1 ∷ 1 ∷ 8 ∷ []
 
 -- the header's bytes
 abbrev pub sizeOf : Bool → ℕ
@@ -47,7 +47,7 @@ abbrev pub extOf : List ℕ → Bool
 extOf bytes = eqb (getD bytes 0 0 / 2 % 2) 1
 
 unfoldable pub openedAt : List ℕ → Opened
-openedAt bytes = opened (extOf bytes) (numberOf (take (sizeOf (extOf bytes)) bytes))
+openedAt bytes = opened (extOf bytes) (headerFrom (take (sizeOf (extOf bytes)) bytes))
 
 -- a number below 512 is written without EXT, a greater one with it; without EXT there is no room for a greater one
 abbrev pub rightForm : Bool → ℕ → Bool
@@ -57,9 +57,9 @@ rightForm ext number = cond ext (leb 512 number) true
 abbrev pub blocksFor : ℕ → ℕ
 blocksFor n = (n + 19) / 20
 
-abbrev pub zeros : List ℕ → Bool
-zeros [] = true
-zeros (b ∷ bytes) = eqb b 0 && zeros bytes
+abbrev pub isPadding : List ℕ → Bool
+isPadding [] = true
+isPadding (b ∷ bytes) = eqb b 0 && isPadding bytes
 
 -- CAF set (6); header check (4); RFA, or the wrong EXT form (6); over 260 bytes (14); wrong block count (7); padding (7); else "message"
 unfoldable pub tested : Opened → List ℕ → Outcome
@@ -70,7 +70,7 @@ tested o bytes =
     (unless (rightForm (o .header .ext) (o .header .number)) (refused 6)
     (unless (leb (o .header .size + o .header .length) 260) (refused 14)
     (unless (eqb (blocksFor (o .header .size + o .header .length) * 20) (length bytes)) (refused 7)
-    (unless (zeros (drop (o .header .size + o .header .length) bytes)) (refused 7)
+    (unless (isPadding (drop (o .header .size + o .header .length) bytes)) (refused 7)
     (message (o .header))))))))
 
 unfoldable pub messageOf : List ℕ → Outcome

@@ -5,10 +5,10 @@ ghost use Prim.Native.Nat.{_*_, _≤_, _<_, _^_};
 ghost use lib.Dec.{eqb};
 ghost use lib.ListN.{length, drop};
 ghost use Rattle.channel.specs.Answers.{outcome};
-ghost use Rattle.channel.specs.Layer4.{only, sizeOf, opened, openedAt, blocksFor, messageOf, zeros};
-use crate::DATA_BYTES;
+ghost use Rattle.channel.specs.Layer4.{whereExt, sizeOf, opened, openedAt, blocksFor, messageOf, isPadding};
+use crate::DATA_IN_BLOCK;
 use crate::Header;
-use crate::MESSAGE_BYTES;
+use crate::MOST_GATHERED;
 use crate::Step;
 use crate::row;
 use answers::Refusal;
@@ -40,7 +40,7 @@ pub(crate) fn read(bytes: &[u8]) -> Step
         return Step::Refused(Refusal::HeaderForm);
     }
     let end = header.size + header.length;
-    if MESSAGE_BYTES < end {
+    if MOST_GATHERED < end {
         return Step::Refused(Refusal::TooLong);
     }
     if !padded(bytes, end) {
@@ -102,7 +102,7 @@ fn reported(h: u64, ext: bool, size: usize) -> Header
 
 // A field that a header has with EXT only.
 fn with_ext(ext: bool, field: u64) -> u64
-    ensures { λ r. ⌜ (r ≡ only ext field) × (r ≤ field) ⌝ }
+    ensures { λ r. ⌜ (r ≡ whereExt ext field) × (r ≤ field) ⌝ }
 {
     if ext { field } else { 0 }
 }
@@ -110,9 +110,9 @@ fn with_ext(ext: bool, field: u64) -> u64
 // Whether the bytes are the least number of blocks that holds a message up to `end`, and zero behind it.
 fn padded(bytes: &[u8], end: usize) -> bool
     requires { ⌜ end ≤ 260 ⌝ }
-    ensures { λ r. ⌜ r ≡ (eqb (blocksFor end * 20) (length (now (bytes .entry))) && zeros (drop end (now (bytes .entry)))) ⌝ }
+    ensures { λ r. ⌜ r ≡ (eqb (blocksFor end * 20) (length (now (bytes .entry))) && isPadding (drop end (now (bytes .entry)))) ⌝ }
 {
-    let mut right = (end + 19) / DATA_BYTES * DATA_BYTES == bytes.len();
+    let mut right = (end + 19) / DATA_IN_BLOCK * DATA_IN_BLOCK == bytes.len();
     let mut i = end;
     while i < bytes.len() {
         right = right & (bytes[i] == 0);

@@ -1,26 +1,25 @@
 // The long message channel of document 01, layers 3 and 4: a channel state takes information blocks of 22 bytes and
 // gives messages.
 ghost use mathlib.Core.Path.{_≡_};
-ghost use Rattle.channel.specs.Answers.{paper};
+ghost use Rattle.channel.specs.Answers.{toldStep};
 ghost use Rattle.channel.specs.State.{fresh, stepOf};
 
 mod layer4;
 mod row;
 mod state;
 
+pub use answers::INFORMATION_BYTES;
 use answers::Refusal;
 
-// The bytes of an information block and of the data in it, and the most that a message can have.
-pub const INFORMATION_BYTES: usize = 22;
+// The data in an information block, and the most that is gathered of a message, its header included, in bytes.
+pub const DATA_IN_BLOCK: usize = 20;
 
-pub const DATA_BYTES: usize = 20;
+pub const MOST_GATHERED: usize = 260;
 
-pub const MESSAGE_BYTES: usize = 260;
-
-// The greatest service number, and the most data of a message.
+// The greatest service number, and the most data of a message, in bytes.
 pub const LAST_NUMBER: u16 = 16383;
 
-pub const MESSAGE_DATA: usize = 255;
+pub const MOST_DATA: usize = 255;
 
 pub enum Phase {
     Waiting,
@@ -34,7 +33,7 @@ pub struct Channel {
     pub gathered: usize,
     pub phase: Phase,
     pub expected: u8,
-    pub bytes: [u8; MESSAGE_BYTES],
+    pub bytes: [u8; MOST_GATHERED],
 }
 
 // The header of a message: its fields but for RFA and CAF, which are zero; `number` is the service number, `length`
@@ -79,7 +78,7 @@ impl Channel {
         ensures { λ r. ⌜ r ≡ fresh ⌝ }
     {
         Channel {
-            bytes: [0u8; MESSAGE_BYTES],
+            bytes: [0u8; MOST_GATHERED],
             gathered: 0,
             phase: Phase::Waiting,
             expected: 0,
@@ -90,7 +89,7 @@ impl Channel {
     // length than 22 (1), another channel (5), a wrong check (4). Then 8, 9, "taken", or what the message's own tests
     // say (6, 4, 14, 7, or the message), with the channel that the rules of state.rt leave.
     pub fn step(self, information: &[u8]) -> Stepped
-        ensures { λ r. ⌜ paper r ≡ stepOf self (now (information .entry)) ⌝ }
+        ensures { λ r. ⌜ toldStep r ≡ stepOf self (now (information .entry)) ⌝ }
     {
         if !state::keeps_rule(self) {
             return state::refused(Refusal::OutsideRule, self);

@@ -2,12 +2,12 @@
 ghost use mathlib.Core.Path.{_≡_};
 ghost use Prim.Native.Nat.{_*_, _<_, _≤_, _^_};
 ghost use lib.ListN.{length};
-ghost use Rattle.header.specs.Fields.{numberOf};
+ghost use Rattle.header.specs.Fields.{headerFrom};
 
 // The header that bytes are.
 pub(crate) fn number(bytes: &[u8]) -> u64
     requires { ⌜ length (now bytes) ≤ 5 ⌝ }
-    ensures { λ r. ⌜ (r ≡ numberOf (now (bytes .entry))) × (r < 2 ^ (8 * length (now (bytes .entry)))) ⌝ }
+    ensures { λ r. ⌜ (r ≡ headerFrom (now (bytes .entry))) × (r < 2 ^ (8 * length (now (bytes .entry)))) ⌝ }
 {
     let mut h: u64 = 0;
     let mut i: usize = 0;

@@ -5,11 +5,11 @@ ghost use Prim.Native.Nat.{_<_, _≤_};
 ghost use lib.ListN.{length};
 ghost use lib.Seq.{paste};
 ghost use Rattle.answers.specs.Numbers.{numberOf};
-ghost use Rattle.channel.specs.Answers.{paper, leaves, refused};
-ghost use Rattle.channel.specs.State.{keepsRule, asWaiting, inStep, joined, advanced};
+ghost use Rattle.channel.specs.Answers.{toldStep, channelAfter, refused};
+ghost use Rattle.channel.specs.State.{keepsRule, asWaiting, inStep, afterJoining, advanced};
 use crate::Channel;
-use crate::DATA_BYTES;
-use crate::MESSAGE_BYTES;
+use crate::DATA_IN_BLOCK;
+use crate::MOST_GATHERED;
 use crate::Phase;
 use crate::Step;
 use crate::Stepped;
@@ -17,7 +17,7 @@ use crate::layer4;
 use answers::Refusal;
 
 pub(crate) fn refused(refusal: Refusal, left: Channel) -> Stepped
-    ensures { λ r. ⌜ paper r ≡ leaves (refused (numberOf refusal)) left ⌝ }
+    ensures { λ r. ⌜ toldStep r ≡ channelAfter (refused (numberOf refusal)) left ⌝ }
 {
     Stepped {
         answer: Step::Refused(refusal),
@@ -35,7 +35,7 @@ pub(crate) fn keeps_rule(channel: Channel) -> bool
     let held = match phase {
         Phase::Waiting => (n == 0) & (sc == 0),
         Phase::Ready => n == 0,
-        Phase::Gathering => (DATA_BYTES <= n) & (n <= MESSAGE_BYTES) & (n % DATA_BYTES == 0),
+        Phase::Gathering => (DATA_IN_BLOCK <= n) & (n <= MOST_GATHERED) & (n % DATA_IN_BLOCK == 0),
     };
     (sc <= 15) & held
 }
@@ -44,17 +44,22 @@ pub(crate) fn keeps_rule(channel: Channel) -> bool
 // does a fourteenth.
 pub(crate) fn advance(channel: Channel, lf: bool, sc: u8, twenty: &[u8]) -> Stepped
     requires { ⌜ (keepsRule channel ≡ true) × (sc < 16) × (length (now twenty) ≡ 20) ⌝ }
-    ensures { λ r. ⌜ paper r ≡ advanced channel lf sc (now (twenty .entry)) ⌝ }
+    ensures { λ r. ⌜ toldStep r ≡ advanced channel lf sc (now (twenty .entry)) ⌝ }
 {
     if !in_step(channel, sc) {
         return refused(Refusal::OutOfStep, as_waiting(channel, lf, sc));
     }
     let at = channel.gathered;
-    if MESSAGE_BYTES <= at {
+    if MOST_GATHERED <= at {
         return refused(Refusal::TooMany, as_waiting(channel, lf, sc));
     }
     let bytes = channel.bytes;
-    gather(join(bytes, at, twenty), at + DATA_BYTES, lf, (sc + 1) % 16)
+    gather(
+        join(bytes, at, twenty),
+        at + DATA_IN_BLOCK,
+        lf,
+        (sc + 1) % 16,
+    )
 }
 
 // A waiting channel expects no SC.
@@ -94,7 +99,7 @@ fn as_waiting(channel: Channel, lf: bool, sc: u8) -> Channel
 }
 
 // Joins twenty bytes on.
-fn join(bytes: [u8; MESSAGE_BYTES], at: usize, twenty: &[u8]) -> [u8; MESSAGE_BYTES]
+fn join(bytes: [u8; MOST_GATHERED], at: usize, twenty: &[u8]) -> [u8; MOST_GATHERED]
     requires { ⌜ (at ≤ 240) × (length (now twenty) ≡ 20) ⌝ }
     ensures { λ r. ⌜ r ≡ paste bytes at (now (twenty .entry)) 20 ⌝ }
 {
@@ -104,9 +109,9 @@ fn join(bytes: [u8; MESSAGE_BYTES], at: usize, twenty: &[u8]) -> [u8; MESSAGE_BY
 }
 
 // What n gathered bytes lead to: with LF they are read as a message, and the channel is ready for the next.
-fn gather(bytes: [u8; MESSAGE_BYTES], n: usize, lf: bool, next: u8) -> Stepped
+fn gather(bytes: [u8; MOST_GATHERED], n: usize, lf: bool, next: u8) -> Stepped
     requires { ⌜ (20 ≤ n) × (n ≤ 260) ⌝ }
-    ensures { λ r. ⌜ paper r ≡ joined bytes n lf next ⌝ }
+    ensures { λ r. ⌜ toldStep r ≡ afterJoining bytes n lf next ⌝ }
 {
     if lf {
         let answer = layer4::read(&bytes[..n]);

@@ -19,14 +19,14 @@ use Rattle.header.specs.Check.{bits, check}
 use Rattle.header.specs.Fields.{field, holds}
 use Rattle.channel.specs.declared.Channel.{Channel}
 use Rattle.channel.specs.Answers as channel
-use Rattle.channel.specs.Answers.{leaves}
+use Rattle.channel.specs.Answers.{channelAfter}
 use Rattle.channel.specs.Layer3.{layer3, headerOf, lfOf, scOf}
 use Rattle.channel.specs.Layer4.{sizeOf, blocksFor}
 use Rattle.channel.specs.State.{fresh, keepsRule, asWaiting, advanced, stepOf}
-use Rattle.writer.specs.Message.{Written}
+use Rattle.writer.specs.Message.{ToldBlocks}
 use Rattle.writer.proofs.Laws.{within-true}
 use Rattle.writer.proofs.Writing.{message-count, message-written}
-use Rattle.band.specs.Band.{Told}
+use Rattle.band.specs.Band.{ToldNumber}
 use Rattle.examples.specs.Table.{word, noWord, generatorLast, wrongCheck, clearedWord, clearedNoWord, headerHolds, headerRefused, khz, reserved, short, extended, Holds, AllHold, Cleared, Fills, zeros, generatorBlock, table}
 
 -- numbers below 256, by one computed test
@@ -177,8 +177,8 @@ module _ (c : Channel) (first second : ℕ) (twenty : List ℕ) where
   h = headerOf (first ∷ second ∷ [])
 
   by-header : keepsRule c ≡ true → length twenty ≡ 20
-      → stepOf c (first ∷ second ∷ twenty) ≡ unless (eqb (field layer3 0 h) 10) (leaves (channel.refused 5) c)
-      (unless (holds 10 h) (leaves (channel.refused 4) c) (advanced c (lfOf h) (scOf h) twenty))
+      → stepOf c (first ∷ second ∷ twenty) ≡ unless (eqb (field layer3 0 h) 10) (channelAfter (channel.refused 5) c)
+      (unless (holds 10 h) (channelAfter (channel.refused 4) c) (advanced c (lfOf h) (scOf h) twenty))
   unfolding stepOf
   by-header rule long = simp (rule, long)
 
@@ -193,8 +193,8 @@ p7 c twenty r rule long e = e ∙ by-header c 164 24 twenty rule long
 p8 : Holds (headerRefused 0 0 5)
 p8 c twenty r rule long e = e ∙ by-header c 0 0 twenty rule long
 
-both : {s t : Told} → s ≡ t → (s .answer ≡ t .answer) × (s .number ≡ t .number)
-both e = (ap (λ (t : Told). t .answer) e, ap (λ (t : Told). t .number) e)
+both : {s t : ToldNumber} → s ≡ t → (s .answer ≡ t .answer) × (s .number ≡ t .number)
+both e = (ap (λ (t : ToldNumber). t .answer) e, ap (λ (t : ToldNumber). t .number) e)
 
 p9-first : Holds (khz 1 87600)
 p9-first r e = both e
@@ -212,7 +212,7 @@ fills ext least most bytes blocks form known few fit m di sc s before after r ri
     let count : blocksFor (sizeOf (leb 512 (m .number)) + length s) ≡ blocks = (λ i. blocksFor (sizeOf (form (m .number) low high i) + long i)) ∙ fit in
     let fits = within-true m sc (length s) (omega arith) (omega arith) (omega arith) (omega arith) (omega arith) in
     let takes = message-written m di sc s (length before) fits (omega arith) in
-    (w .answer ∙ ap (λ (t : Written). t .answer) takes, w .blocks ∙ ap (λ (t : Written). length (t .blocks)) takes ∙ message-count m di sc s ∙ count)
+    (w .answer ∙ ap (λ (t : ToldBlocks). t .answer) takes, w .blocks ∙ ap (λ (t : ToldBlocks). length (t .blocks)) takes ∙ message-count m di sc s ∙ count)
 
 short-holds : (bytes blocks : ℕ) → bytes ≤ 255 → blocksFor (4 + bytes) ≡ blocks → Holds (short bytes blocks)
 short-holds bytes blocks = fills false 0 511 bytes blocks (λ n l h. lt-leb 512 n (omega arith)) (lit≤ tt)

@@ -16,10 +16,10 @@ use Rattle.channel.specs.declared.Phase.the-variants.{Ready}
 use Rattle.channel.specs.declared.Stepped.{Stepped}
 use Rattle.channel.specs.declared.Fields.{Fields}
 use Rattle.channel.specs.Answers as channel
-use Rattle.channel.specs.Answers.{leaves}
-use Rattle.channel.specs.State.{channelOf, fresh, keepsRule, stepOf}
+use Rattle.channel.specs.Answers.{channelAfter}
+use Rattle.channel.specs.State.{channelWith, fresh, keepsRule, stepOf}
 use Rattle.writer.specs.declared.Wrote.{Wrote}
-use Rattle.writer.specs.Message.{writeMessageOf, Writes}
+use Rattle.writer.specs.Message.{writeMessageOf, LeavesBlocks}
 use Rattle.band.specs.declared.KilohertzAnswer.{KilohertzAnswer}
 use Rattle.band.specs.declared.ChannelAnswer.{ChannelAnswer}
 use Rattle.band.specs.Band.{toldKilohertz, kilohertzOf, toldChannel, numberedOf}
@@ -98,7 +98,7 @@ GivesNoWord received =
 abbrev pub Fills : (least most bytes blocks : ℕ) → Type 0
 Fills least most bytes blocks =
     (m : Fields) (di : Bool) (sc : ℕ) (s before after : List ℕ) (r : Wrote) → m .ri ≤ 3 → m .ci ≤ 3 → least ≤ m .number → m .number ≤ most → sc ≤ 15
-    → length s ≡ bytes → 22 * blocks ≤ length before → Writes (writeMessageOf m di sc s (length before)) r before after
+    → length s ≡ bytes → 22 * blocks ≤ length before → LeavesBlocks (writeMessageOf m di sc s (length before)) r before after
     → (paper (r .answer) ≡ accepted) × (r .blocks ≡ blocks)
 
 abbrev pub Holds : Example → Type 0
@@ -113,11 +113,11 @@ Holds (clearedWord ones corrected count) =
     ((received : List ℕ) × Cleared ones received) × ((received : List ℕ) → Cleared ones received → GivesWord received corrected count)
 Holds (clearedNoWord ones) = ((received : List ℕ) × Cleared ones received) × ((received : List ℕ) → Cleared ones received → GivesNoWord received)
 Holds (headerHolds first second expected) =
-    (twenty : List ℕ) (r : Stepped) → length twenty ≡ 20 → channel.paper r ≡ stepOf fresh (first ∷ second ∷ twenty)
-    → channel.paper r ≡ leaves (channel.refused 8) (channelOf (zeros 260) 0 Ready expected)
+    (twenty : List ℕ) (r : Stepped) → length twenty ≡ 20 → channel.toldStep r ≡ stepOf fresh (first ∷ second ∷ twenty)
+    → channel.toldStep r ≡ channelAfter (channel.refused 8) (channelWith (zeros 260) 0 Ready expected)
 Holds (headerRefused first second number) =
-    (c : Channel) (twenty : List ℕ) (r : Stepped) → keepsRule c ≡ true → length twenty ≡ 20 → channel.paper r ≡ stepOf c (first ∷ second ∷ twenty)
-    → channel.paper r ≡ leaves (channel.refused number) c
+    (c : Channel) (twenty : List ℕ) (r : Stepped) → keepsRule c ≡ true → length twenty ≡ 20 → channel.toldStep r ≡ stepOf c (first ∷ second ∷ twenty)
+    → channel.toldStep r ≡ channelAfter (channel.refused number) c
 Holds (khz channel kilohertz) =
     (r : KilohertzAnswer) → toldKilohertz r ≡ kilohertzOf (record { 0 = channel })
     → (paper (r .answer) ≡ accepted) × (r .kilohertz .0 ≡ kilohertz)

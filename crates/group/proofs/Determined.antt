@@ -6,7 +6,7 @@ use native.Mathlib.Omega.{arith}
 use Rattle.answers.specs.Numbers.{numberOf, paper}
 use Rattle.answers.proofs.Determined.{refusal-once, paper-once}
 use Rattle.channel.specs.declared.Fields.{Fields}
-use Rattle.group.specs.Answers.{outcome, Left, left, made}
+use Rattle.group.specs.Answers.{outcome, GroupAfter, toldJoin, made}
 use Rattle.group.specs.Answers as answers
 use Rattle.group.specs.State.{newOf, joinOf}
 use Rattle.group.specs.declared.Group.{Group}
@@ -35,9 +35,9 @@ outcome-once (Refused r) (Whole n) e = let z : _≡_ {A = ℕ} 0 1 = cc in absur
 outcome-once (Refused r) (Refused s) e = let n : numberOf r ≡ numberOf s = cc in ap Refused (refusal-once r s n)
 
 -- `Group::join`: what it returns, and the buffer
-pub join-once : (g : Group) (m : Fields) (s buffer : List ℕ) (r t : Stepped) (x y : List ℕ) → left r x ≡ joinOf g m s buffer → left t y ≡ joinOf g m s buffer → (r ≡ t) × (x ≡ y)
+pub join-once : (g : Group) (m : Fields) (s buffer : List ℕ) (r t : Stepped) (x y : List ℕ) → toldJoin r x ≡ joinOf g m s buffer → toldJoin t y ≡ joinOf g m s buffer → (r ≡ t) × (x ≡ y)
 join-once g m s buffer r t x y p q =
     let e = p ∙ sym q in
-    let answer = outcome-once (r .answer) (t .answer) (ap (λ (l : Left). l .answer) e) in
-    let group = ap (λ (l : Left). l .group) e in
-    (λ i. record { answer = answer i; group = group i }, ap (λ (l : Left). l .buffer) e)
+    let answer = outcome-once (r .answer) (t .answer) (ap (λ (l : GroupAfter). l .answer) e) in
+    let group = ap (λ (l : GroupAfter). l .group) e in
+    (λ i. record { answer = answer i; group = group i }, ap (λ (l : GroupAfter). l .buffer) e)

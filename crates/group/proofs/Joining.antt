@@ -10,8 +10,8 @@ use lib.ListN.{length}
 use Rattle.answers.specs.Rules.{unless}
 use Rattle.answers.proofs.Rules.{unless-and}
 use Rattle.channel.specs.declared.Fields.{Fields}
-use Rattle.group.specs.Answers.{refused, Left, leaves}
-use Rattle.group.specs.State.{idle, phaseHolds, keepsRule, within, inStep, joinedOn, followed, joinOf}
+use Rattle.group.specs.Answers.{refused, GroupAfter, groupAfter}
+use Rattle.group.specs.State.{idle, phaseHolds, keepsRule, messageFits, inStep, joinedOn, followed, joinOf}
 use Rattle.group.specs.declared.Group.{Group}
 use Rattle.group.specs.declared.Phase.{Phase}
 use Rattle.group.specs.declared.Phase.the-variants.{Idle, Gathering}
@@ -38,55 +38,55 @@ module _ (g : Group) (m : Fields) (s buffer : List ℕ) where
   base first = cond first (idle (g .number)) g
 
   -- by First, and by the phase where it is none
-  abbrev ahead : Bool → Phase → Left
+  abbrev ahead : Bool → Phase → GroupAfter
   ahead first p = cond first (joinedOn (idle (g .number)) m s buffer) (followed p g m s buffer)
 
-  abbrev onward : Bool → Group → Left
+  abbrev onward : Bool → Group → GroupAfter
   onward step b =
-      unless step (leaves (refused 8) (idle (g .number)) buffer) (unless (ltb (b .messages) 15) (leaves (refused 9) (idle (g .number)) buffer) (joinedOn b m s buffer))
+      unless step (groupAfter (refused 8) (idle (g .number)) buffer) (unless (ltb (b .messages) 15) (groupAfter (refused 9) (idle (g .number)) buffer) (joinedOn b m s buffer))
 
   by-step : keepsRule g ≡ true → (first : Bool) (p : Phase) → g .phase ≡ p → ahead first p ≡ onward (inStep first (base first .phase) (base first .ci) (m .ci)) (base first)
   by-step rule true p e = refl
   by-step rule false Idle e =
-      ap (λ (h : Group). leaves (refused 8) h buffer) (is-idle g rule e) ∙ sym (ap (λ (q : Phase). onward (inStep false q (g .ci) (m .ci)) g) e)
+      ap (λ (h : Group). groupAfter (refused 8) h buffer) (is-idle g rule e) ∙ sym (ap (λ (q : Phase). onward (inStep false q (g .ci) (m .ci)) g) e)
   by-step rule false Gathering e = sym (ap (λ (q : Phase). onward (inStep false q (g .ci) (m .ci)) g) e)
 
   abbrev pub rules : Bool
-  rules = keepsRule g && within m (length s)
+  rules = keepsRule g && messageFits m (length s)
 
   abbrev pub ours : Bool
   ours = eqb (m .number) (g .number) && not (m .command)
 
-  in-order : joinOf g m s buffer ≡ unless (leb 3825 (length buffer)) (leaves (refused 10) g buffer) (unless rules (leaves (refused 11) g buffer) (unless ours (leaves (refused 13) g buffer) (ahead (m .first) (g .phase))))
+  in-order : joinOf g m s buffer ≡ unless (leb 3825 (length buffer)) (groupAfter (refused 10) g buffer) (unless rules (groupAfter (refused 11) g buffer) (unless ours (groupAfter (refused 13) g buffer) (ahead (m .first) (g .phase))))
   unfolding joinOf
   in-order =
-      ap (λ (t : Left). unless (leb 3825 (length buffer)) (leaves (refused 10) g buffer) t)
-      (unless-and (keepsRule g) (within m (length s)) (leaves (refused 11) g buffer) _
-      ∙ ap (λ (t : Left). unless rules (leaves (refused 11) g buffer) t) (unless-and (eqb (m .number) (g .number)) (not (m .command)) (leaves (refused 13) g buffer) _))
+      ap (λ (t : GroupAfter). unless (leb 3825 (length buffer)) (groupAfter (refused 10) g buffer) t)
+      (unless-and (keepsRule g) (messageFits m (length s)) (groupAfter (refused 11) g buffer) _
+      ∙ ap (λ (t : GroupAfter). unless rules (groupAfter (refused 11) g buffer) t) (unless-and (eqb (m .number) (g .number)) (not (m .command)) (groupAfter (refused 13) g buffer) _))
 
-  pub short : leb 3825 (length buffer) ≡ false → leaves (refused 10) g buffer ≡ joinOf g m s buffer
+  pub short : leb 3825 (length buffer) ≡ false → groupAfter (refused 10) g buffer ≡ joinOf g m s buffer
   short e = sym (in-order ∙ rw e)
 
   module _ (room : 3825 ≤ length buffer) where
-    pub outside : rules ≡ false → leaves (refused 11) g buffer ≡ joinOf g m s buffer
+    pub outside : rules ≡ false → groupAfter (refused 11) g buffer ≡ joinOf g m s buffer
     outside e = sym (in-order ∙ rw (le-leb _ _ room, e))
 
     module _ (within-rules : rules ≡ true) where
-      pub other : ours ≡ false → leaves (refused 13) g buffer ≡ joinOf g m s buffer
+      pub other : ours ≡ false → groupAfter (refused 13) g buffer ≡ joinOf g m s buffer
       other e = sym (in-order ∙ rw (le-leb _ _ room, within-rules, e))
 
       module _ (belongs : ours ≡ true) (b : Group) (is : b ≡ base (m .first)) where
         tests : joinOf g m s buffer ≡ onward (inStep (m .first) (b .phase) (b .ci) (m .ci)) b
         tests =
             in-order
-            ∙ rw (le-leb _ _ room, within-rules, belongs) (by-step (and-eq-true-iff (keepsRule g) (within m (length s)) .0 within-rules .0) (m .first) (g .phase) refl)
+            ∙ rw (le-leb _ _ room, within-rules, belongs) (by-step (and-eq-true-iff (keepsRule g) (messageFits m (length s)) .0 within-rules .0) (m .first) (g .phase) refl)
             ∙ sym (ap (λ (h : Group). onward (inStep (m .first) (h .phase) (h .ci) (m .ci)) h) is)
 
-        pub out-of-step : inStep (m .first) (b .phase) (b .ci) (m .ci) ≡ false → leaves (refused 8) (idle (g .number)) buffer ≡ joinOf g m s buffer
+        pub out-of-step : inStep (m .first) (b .phase) (b .ci) (m .ci) ≡ false → groupAfter (refused 8) (idle (g .number)) buffer ≡ joinOf g m s buffer
         out-of-step e = sym (tests ∙ rw e)
 
         module _ (step : inStep (m .first) (b .phase) (b .ci) (m .ci) ≡ true) where
-          pub too-many : 15 ≤ b .messages → leaves (refused 9) (idle (g .number)) buffer ≡ joinOf g m s buffer
+          pub too-many : 15 ≤ b .messages → groupAfter (refused 9) (idle (g .number)) buffer ≡ joinOf g m s buffer
           too-many h = sym (tests ∙ rw (step, le-ltb _ _ h))
 
           pub joins : b .messages < 15 → joinedOn b m s buffer ≡ joinOf g m s buffer

@@ -6,7 +6,7 @@ use native.Mathlib.Omega.{arith}
 use borrow.Author.Tests.{eqb-true, leb-true}
 use lib.Dec.{eqb, leb}
 use Rattle.channel.specs.declared.Fields.{Fields}
-use Rattle.group.specs.State.{phaseHolds, keepsRule, within}
+use Rattle.group.specs.State.{phaseHolds, keepsRule, messageFits}
 use Rattle.group.specs.declared.Group.{Group}
 use Rattle.group.specs.declared.Phase.{Phase}
 use Rattle.group.specs.declared.Phase.the-variants.{Idle, Gathering}
@@ -33,8 +33,8 @@ unfolding keepsRule
 rule-room g e =
     phase-room (g .phase) (g .held) (g .messages) (g .ci) (and-eq-true-iff (leb (g .number) 16383) (phaseHolds (g .phase) (g .held) (g .messages) (g .ci)) .0 e .1)
 
-pub within-bounds : (m : Fields) (d : ℕ) → within m d ≡ true → (d ≤ 255) × (m .ci ≤ 3)
-unfolding within
+pub within-bounds : (m : Fields) (d : ℕ) → messageFits m d ≡ true → (d ≤ 255) × (m .ci ≤ 3)
+unfolding messageFits
 within-bounds m d e =
     let n = leb (m .number) 16383 in
     let t = and-eq-true-iff (n && leb d 255 && leb (m .ri) 3) (leb (m .ci) 3) .0 e in

@@ -8,9 +8,9 @@ use borrow.Author.Tests.{leb-true}
 use lib.Dec.{eqb, leb, ltb}
 use lib.ListN.{length, take, length-append}
 use lib.Seq.{paste, take-paste, take-length, length-take-le}
-use Rattle.group.specs.Answers.{Outcome, taken, whole, refused, outcome, Left, left}
-use Rattle.group.specs.State.{idle, keepsRule, within, joinedOn, followed, joinOf}
-use Rattle.group.specs.Leading.{Message, Joined, Joins, joinAnswers, groupLeft, bufferLeft, joinedTo, changesNothing, joinedAfter, joinedBy, Leads}
+use Rattle.group.specs.Answers.{Outcome, taken, whole, refused, outcome, GroupAfter, toldJoin}
+use Rattle.group.specs.State.{idle, keepsRule, messageFits, joinedOn, followed, joinOf}
+use Rattle.group.specs.Leading.{Message, JoinResult, Joins, joinAnswers, groupLeft, bufferLeft, joinedTo, changesNothing, joinedAfter, joinedBy, Leads}
 use Rattle.group.specs.declared.Group.{Group}
 use Rattle.group.specs.declared.Phase.{Phase}
 use Rattle.group.specs.declared.Phase.the-variants.{Idle, Gathering}
@@ -39,7 +39,7 @@ module _ (g : Group) (buffer : List ℕ) (m : Message) where
   Tells joined (whole n) h after = (n ≡ length joined) × (take n after ≡ joined) × (h ≡ idle (g .number))
   Tells joined (refused n) h after = (h ≡ cond (changesNothing n) g (idle (g .number))) × (after ≡ buffer)
 
-  abbrev Told : List ℕ → Left → Type 0
+  abbrev Told : List ℕ → GroupAfter → Type 0
   Told joined l = Tells joined (l .answer) (l .group) (l .buffer)
 
   joined-told : (b : Group) → b .number ≡ g .number → b .held ≤ length buffer → Told (take (b .held) buffer ++ m .bytes) (joinedOn b (m .fields) (m .bytes) buffer)
@@ -65,7 +65,7 @@ module _ (g : Group) (buffer : List ℕ) (m : Message) where
       let d = joinedTo (take (g .held) buffer) m in
       unless-elim (Told d) (leb 3825 (length buffer)) _ _ (refl, refl) λ l.
       unless-elim (Told d) (keepsRule g) _ _ (refl, refl) λ rule.
-      unless-elim (Told d) (within (m .fields) (length (m .bytes))) _ _ (refl, refl) λ _.
+      unless-elim (Told d) (messageFits (m .fields) (length (m .bytes))) _ _ (refl, refl) λ _.
       unless-elim (Told d) (eqb (m .fields .number) (g .number)) _ _ (refl, refl) λ _.
       unless-elim (Told d) (not (m .fields .command)) _ _ (refl, refl) λ _.
       by-first (m .fields .first) rule (omega (arith, rule-room g rule, leb-true 3825 (length buffer) l))
@@ -76,7 +76,7 @@ module _ (g : Group) (buffer : List ℕ) (m : Message) where
       by-first false rule h = followed-told (g .phase) refl rule h
 
   -- A REFUSAL CHANGES NO BYTE; 10, 11 AND 13 LEAVE THE STATE AS IT STOOD, AND ANY OTHER IDLE
-  pub refused-kept : (r : Stepped) (after : List ℕ) (n : ℕ) → left r after ≡ joinOf g (m .fields) (m .bytes) buffer → outcome (r .answer) ≡ refused n
+  pub refused-kept : (r : Stepped) (after : List ℕ) (n : ℕ) → toldJoin r after ≡ joinOf g (m .fields) (m .bytes) buffer → outcome (r .answer) ≡ refused n
       → (r .group ≡ cond (changesNothing n) g (idle (g .number))) × (after ≡ buffer)
   refused-kept r after n did e =
       let d = joinedTo (take (g .held) buffer) m in
@@ -95,7 +95,7 @@ module _ (g : Group) (buffer joined : List ℕ) (c : Counts g buffer joined) whe
   counts-after m (whole n) h after t = (ap (λ (k : Group). k .held) (t .2), refl)
   counts-after m (refused n) h after t = counts-kept (changesNothing n) h after (t .0) (t .1)
 
-  counted-told : (m : Message) (r : Stepped) (after : List ℕ) → left r after ≡ joinOf g (m .fields) (m .bytes) buffer → Told g buffer m (joinedTo joined m) (left r after)
+  counted-told : (m : Message) (r : Stepped) (after : List ℕ) → toldJoin r after ≡ joinOf g (m .fields) (m .bytes) buffer → Told g buffer m (joinedTo joined m) (toldJoin r after)
   counted-told m r after did =
       let held : take (g .held) buffer ≡ joined = ap (λ (k : ℕ). take k buffer) (c .0) ∙ c .1 in
       subst (Told g buffer m (joinedTo joined m)) (sym did)
@@ -111,7 +111,7 @@ module _ (g : Group) (buffer joined : List ℕ) (c : Counts g buffer joined) whe
             (t .0, t .1);
       }
 
-run-counts : (g : Group) (buffer : List ℕ) (messages : List Message) (joins : List Joined) (joined : List ℕ) → Joins g buffer messages joins → Counts g buffer joined
+run-counts : (g : Group) (buffer : List ℕ) (messages : List Message) (joins : List JoinResult) (joined : List ℕ) → Joins g buffer messages joins → Counts g buffer joined
     → Counts (groupLeft g joins) (bufferLeft buffer joins) (joinedBy (joinAnswers joins) joined messages)
 run-counts g buffer [] [] joined did c = c
 run-counts g buffer [] (j ∷ joins) joined did c = absurd did
@@ -123,7 +123,7 @@ run-counts g buffer (m ∷ messages) (j ∷ joins) joined did c =
     (counts-after g buffer joined c m o (r .group) (j .buffer) (counted-told g buffer joined c m r (j .buffer) (did .0)))
 
 -- After any messages whatever, from a state whose counted bytes the buffer has, as it has those of a fresh one, which counts none.
-pub leading-bytes : (g : Group) (buffer : List ℕ) (messages : List Message) (joins : List Joined) → Joins g buffer messages joins → g .held ≤ length buffer
+pub leading-bytes : (g : Group) (buffer : List ℕ) (messages : List Message) (joins : List JoinResult) → Joins g buffer messages joins → g .held ≤ length buffer
     → Leads (groupLeft g joins) (bufferLeft buffer joins) (joinedBy (joinAnswers joins) (take (g .held) buffer) messages)
 leading-bytes g buffer messages joins did h =
     let n = length-take-le (g .held) buffer h in

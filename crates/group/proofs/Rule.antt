@@ -9,8 +9,8 @@ use lib.Dec.{eqb, leb, ltb}
 use lib.ListN.{length}
 use Rattle.channel.specs.declared.Fields.{Fields}
 use Rattle.answers.proofs.Rules.{unless-elim}
-use Rattle.group.specs.Answers.{Left, Made}
-use Rattle.group.specs.State.{groupOf, idle, newOf, phaseHolds, keepsRule, within, joinedOn, followed, joinOf}
+use Rattle.group.specs.Answers.{GroupAfter, Made}
+use Rattle.group.specs.State.{groupWith, idle, newOf, phaseHolds, keepsRule, messageFits, joinedOn, followed, joinOf}
 use Rattle.group.specs.declared.Group.{Group}
 use Rattle.group.specs.declared.Phase.{Phase}
 use Rattle.group.specs.declared.Phase.the-variants.{Idle, Gathering}
@@ -26,7 +26,7 @@ idle-rule number h = rw (le-leb _ _ h)
 
 -- one message more
 pub gathering-rule : (number held messages d ci : ℕ) → number ≤ 16383 → held ≤ 255 * messages → messages < 15 → d ≤ 255 → ci ≤ 3
-    → keepsRule (groupOf number Gathering (held + d) (messages + 1) ci) ≡ true
+    → keepsRule (groupWith number Gathering (held + d) (messages + 1) ci) ≡ true
 unfolding keepsRule
 gathering-rule number held messages d ci hn hh hm hd hc =
     let a : 1 ≤ messages + 1 = omega arith in
@@ -34,10 +34,10 @@ gathering-rule number held messages d ci hn hh hm hd hc =
     let e : held + d ≤ 255 * (messages + 1) = omega arith in
     rw (le-leb _ _ hn, le-leb _ _ a, le-leb _ _ b, le-leb _ _ e, le-leb _ _ hc)
 
-abbrev Kept : Left → Type 0
+abbrev Kept : GroupAfter → Type 0
 Kept l = keepsRule (l .group) ≡ true
 
-module _ (m : Fields) (s buffer : List ℕ) (fits : within m (length s) ≡ true) where
+module _ (m : Fields) (s buffer : List ℕ) (fits : messageFits m (length s) ≡ true) where
   joined-kept : (g : Group) → g .number ≤ 16383 → g .held ≤ 255 * g .messages → g .messages < 15 → Kept (joinedOn g m s buffer)
   unfolding joinedOn
   joined-kept g hn hh hm =
@@ -58,7 +58,7 @@ unfolding joinOf
 rule-kept g m s buffer rule =
     unless-elim Kept (leb 3825 (length buffer)) _ _ rule λ _.
     unless-elim Kept (keepsRule g) _ _ rule λ _.
-    unless-elim Kept (within m (length s)) _ _ rule λ fits.
+    unless-elim Kept (messageFits m (length s)) _ _ rule λ fits.
     unless-elim Kept (eqb (m .number) (g .number)) _ _ rule λ _.
     unless-elim Kept (not (m .command)) _ _ rule λ _.
     cond-elim Kept (m .first) _ _ (λ _. joined-kept m s buffer fits (idle (g .number)) (rule-number g rule) (omega arith) (omega arith)) λ _.

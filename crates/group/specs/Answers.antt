@@ -19,16 +19,16 @@ outcome (Whole length) = whole length
 outcome (Refused refusal) = refused (numberOf refusal)
 
 -- an answer, and the state and the buffer that it leaves
-pub record Left : Type 0 where
+pub record GroupAfter : Type 0 where
   pub answer : Outcome
   pub group : Group
   pub buffer : List ℕ
 
-abbrev pub leaves : Outcome → Group → List ℕ → Left
-leaves answer group buffer = record { answer = answer; group = group; buffer = buffer }
+abbrev pub groupAfter : Outcome → Group → List ℕ → GroupAfter
+groupAfter answer group buffer = record { answer = answer; group = group; buffer = buffer }
 
-abbrev pub left : Stepped → List ℕ → Left
-left r buffer = leaves (outcome (r .answer)) (r .group) buffer
+abbrev pub toldJoin : Stepped → List ℕ → GroupAfter
+toldJoin r buffer = groupAfter (outcome (r .answer)) (r .group) buffer
 
 -- the answer to being asked for a state, and the state
 pub record Made : Type 0 where

@@ -7,7 +7,7 @@ use mathlib.Core.List.{List, [], _∷_, _++_}
 use lib.Dec.{eqb}
 use lib.ListN.{length, take}
 use Rattle.channel.specs.declared.Fields.{Fields}
-use Rattle.group.specs.Answers.{Outcome, taken, whole, refused, outcome, left}
+use Rattle.group.specs.Answers.{Outcome, taken, whole, refused, outcome, toldJoin}
 use Rattle.group.specs.State.{joinOf}
 use Rattle.group.specs.declared.Group.{Group}
 use Rattle.group.specs.declared.Stepped.{Stepped}
@@ -18,28 +18,28 @@ pub record Message : Type 0 where
   pub bytes : List ℕ
 
 -- what `Group::join` gives back, and the buffer as it leaves it
-pub record Joined : Type 0 where
+pub record JoinResult : Type 0 where
   pub stepped : Stepped
   pub buffer : List ℕ
 
 -- what it gives for message after message, each time from the state and with the buffer that it left
-abbrev pub Joins : Group → List ℕ → List Message → List Joined → Type 0
+abbrev pub Joins : Group → List ℕ → List Message → List JoinResult → Type 0
 Joins g buffer [] [] = Unit
 Joins g buffer [] (j ∷ joins) = ⊥
 Joins g buffer (m ∷ messages) [] = ⊥
 Joins g buffer (m ∷ messages) (j ∷ joins) =
-    (left (j .stepped) (j .buffer) ≡ joinOf g (m .fields) (m .bytes) buffer) × Joins (j .stepped .group) (j .buffer) messages joins
+    (toldJoin (j .stepped) (j .buffer) ≡ joinOf g (m .fields) (m .bytes) buffer) × Joins (j .stepped .group) (j .buffer) messages joins
 
 -- every answer, and the state and the buffer at the end
-abbrev pub joinAnswers : List Joined → List Outcome
+abbrev pub joinAnswers : List JoinResult → List Outcome
 joinAnswers [] = []
 joinAnswers (j ∷ joins) = outcome (j .stepped .answer) ∷ joinAnswers joins
 
-abbrev pub groupLeft : Group → List Joined → Group
+abbrev pub groupLeft : Group → List JoinResult → Group
 groupLeft g [] = g
 groupLeft g (j ∷ joins) = groupLeft (j .stepped .group) joins
 
-abbrev pub bufferLeft : List ℕ → List Joined → List ℕ
+abbrev pub bufferLeft : List ℕ → List JoinResult → List ℕ
 bufferLeft buffer [] = buffer
 bufferLeft buffer (j ∷ joins) = bufferLeft (j .buffer) joins
 
@@ -69,5 +69,5 @@ joinedBy (o ∷ answers) joined (m ∷ messages) = joinedBy answers (joinedAfter
 pub record Leads (g : Group) (buffer joined : List ℕ) : Type 0 where
   pub counted : g .held ≡ length joined
   pub begins : take (length joined) buffer ≡ joined
-  pub completed : (m : Message) (r : Stepped) (after : List ℕ) (n : ℕ) → left r after ≡ joinOf g (m .fields) (m .bytes) buffer → outcome (r .answer) ≡ whole n
+  pub completed : (m : Message) (r : Stepped) (after : List ℕ) (n : ℕ) → toldJoin r after ≡ joinOf g (m .fields) (m .bytes) buffer → outcome (r .answer) ≡ whole n
       → (n ≡ length (joinedTo joined m)) × (take n after ≡ joinedTo joined m)

@@ -9,17 +9,17 @@ use Rattle.answers.specs.Numbers.{accepted}
 use Rattle.answers.specs.Numbers as numbers
 use Rattle.answers.specs.Rules.{unless}
 use Rattle.channel.specs.declared.Fields.{Fields}
-use Rattle.group.specs.Answers.{taken, whole, refused, Left, leaves, Made, made}
+use Rattle.group.specs.Answers.{taken, whole, refused, GroupAfter, groupAfter, Made, made}
 use Rattle.group.specs.declared.Group.{Group}
 use Rattle.group.specs.declared.Phase.{Phase}
 use Rattle.group.specs.declared.Phase.the-variants.{Idle, Gathering}
 
-abbrev pub groupOf : ℕ → Phase → ℕ → ℕ → ℕ → Group
-groupOf number phase held messages ci = record { number = number; phase = phase; held = held; messages = messages; ci = ci }
+abbrev pub groupWith : ℕ → Phase → ℕ → ℕ → ℕ → Group
+groupWith number phase held messages ci = record { number = number; phase = phase; held = held; messages = messages; ci = ci }
 
 -- a group state begins idle, with no bytes counted
 abbrev pub idle : ℕ → Group
-idle number = groupOf number Idle 0 0 0
+idle number = groupWith number Idle 0 0 0
 
 -- asked for a number above 16,383 the answer is 11, with the fresh state of number 0
 unfoldable pub newOf : ℕ → Made
@@ -34,33 +34,33 @@ unfoldable pub keepsRule : Group → Bool
 keepsRule g = leb (g .number) 16383 && phaseHolds (g .phase) (g .held) (g .messages) (g .ci)
 
 -- a message with d data bytes: its number at most 16,383, its data at most 255 bytes, each field within its width
-unfoldable pub within : Fields → ℕ → Bool
-within m d = leb (m .number) 16383 && leb d 255 && leb (m .ri) 3 && leb (m .ci) 3
+unfoldable pub messageFits : Fields → ℕ → Bool
+messageFits m d = leb (m .number) 16383 && leb d 255 && leb (m .ri) 3 && leb (m .ci) 3
 
 -- the data is written at the counted place; with Last the answer is "group" with its length and the state is idle; without, "taken", gathering
-unfoldable pub joinedOn : Group → Fields → List ℕ → List ℕ → Left
+unfoldable pub joinedOn : Group → Fields → List ℕ → List ℕ → GroupAfter
 joinedOn g m s buffer =
     cond (m .last)
-    (leaves (whole (g .held + length s)) (idle (g .number)) (paste buffer (g .held) s (length s)))
-    (leaves taken (groupOf (g .number) Gathering (g .held + length s) (g .messages + 1) (m .ci)) (paste buffer (g .held) s (length s)))
+    (groupAfter (whole (g .held + length s)) (idle (g .number)) (paste buffer (g .held) s (length s)))
+    (groupAfter taken (groupWith (g .number) Gathering (g .held + length s) (g .messages + 1) (m .ci)) (paste buffer (g .held) s (length s)))
 
 -- not First and idle: answer 8, still idle; CI not one more, modulo 4: idle, answer 8; fifteen messages already: idle, answer 9; otherwise joined on
-abbrev pub followed : Phase → Group → Fields → List ℕ → List ℕ → Left
-followed Idle g m s buffer = leaves (refused 8) g buffer
+abbrev pub followed : Phase → Group → Fields → List ℕ → List ℕ → GroupAfter
+followed Idle g m s buffer = groupAfter (refused 8) g buffer
 followed Gathering g m s buffer =
-    unless (eqb (m .ci) ((g .ci + 1) % 4)) (leaves (refused 8) (idle (g .number)) buffer)
-    (unless (ltb (g .messages) 15) (leaves (refused 9) (idle (g .number)) buffer)
+    unless (eqb (m .ci) ((g .ci + 1) % 4)) (groupAfter (refused 8) (idle (g .number)) buffer)
+    (unless (ltb (g .messages) 15) (groupAfter (refused 9) (idle (g .number)) buffer)
     (joinedOn g m s buffer))
 
 -- buffer short (10); a state otherwise, number above 16,383, data over 255 bytes or a field over its width (11); another service number or COM set (13);
 -- these change nothing. First set: whatever was gathered is dropped and this data is the group so far
-unfoldable pub joinOf : Group → Fields → List ℕ → List ℕ → Left
+unfoldable pub joinOf : Group → Fields → List ℕ → List ℕ → GroupAfter
 joinOf g m s buffer =
-    unless (leb 3825 (length buffer)) (leaves (refused 10) g buffer)
-    (unless (keepsRule g) (leaves (refused 11) g buffer)
-    (unless (within m (length s)) (leaves (refused 11) g buffer)
-    (unless (eqb (m .number) (g .number)) (leaves (refused 13) g buffer)
-    (unless (not (m .command)) (leaves (refused 13) g buffer)
+    unless (leb 3825 (length buffer)) (groupAfter (refused 10) g buffer)
+    (unless (keepsRule g) (groupAfter (refused 11) g buffer)
+    (unless (messageFits m (length s)) (groupAfter (refused 11) g buffer)
+    (unless (eqb (m .number) (g .number)) (groupAfter (refused 13) g buffer)
+    (unless (not (m .command)) (groupAfter (refused 13) g buffer)
     (cond (m .first) (joinedOn (idle (g .number)) m s buffer)
     (followed (g .phase) g m s buffer))))))
 

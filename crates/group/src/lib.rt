@@ -2,7 +2,7 @@
 // buffer.
 ghost use mathlib.Core.Path.{_≡_};
 ghost use Rattle.answers.specs.Numbers.{paper};
-ghost use Rattle.group.specs.Answers.{made, left};
+ghost use Rattle.group.specs.Answers.{made, toldJoin};
 ghost use Rattle.group.specs.State.{newOf, joinOf};
 
 mod state;
@@ -73,7 +73,7 @@ impl Group {
     // or COM (13). Then by First and CI: 8 or 9, with the state idle; or the data is joined on, "taken" or "group".
     // A refusal changes no byte of the buffer, a joining those of its data.
     pub fn join(self, message: Fields, data: &[u8], buffer: &mut [u8]) -> Stepped
-        ensures { λ r. ⌜ left r (now (buffer .exit)) ≡ joinOf self message (now («data» .entry)) (now (buffer .entry)) ⌝ }
+        ensures { λ r. ⌜ toldJoin r (now (buffer .exit)) ≡ joinOf self message (now («data» .entry)) (now (buffer .entry)) ⌝ }
     {
         if buffer.len() < Group::MOST_BYTES {
             return state::refused(Refusal::TooShort, self);

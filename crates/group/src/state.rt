@@ -6,8 +6,8 @@ ghost use Prim.Native.Nat.{ℕ, _+_, _<_, _≤_};
 ghost use lib.Dec.{eqb};
 ghost use lib.ListN.{length};
 ghost use Rattle.answers.specs.Numbers.{numberOf};
-ghost use Rattle.group.specs.Answers.{refused, leaves, left};
-ghost use Rattle.group.specs.State.{idle, keepsRule, within, inStep, joinedOn};
+ghost use Rattle.group.specs.Answers.{refused, groupAfter, toldJoin};
+ghost use Rattle.group.specs.State.{idle, keepsRule, messageFits, inStep, joinedOn};
 use crate::Group;
 use crate::Phase;
 use crate::Step;
@@ -15,7 +15,7 @@ use crate::Stepped;
 use answers::Refusal;
 use channel::Fields;
 use channel::LAST_NUMBER;
-use channel::MESSAGE_DATA;
+use channel::MOST_DATA;
 
 pub(crate) fn idle(number: u16) -> Group
     ensures { λ r. ⌜ r ≡ idle number ⌝ }
@@ -30,7 +30,7 @@ pub(crate) fn idle(number: u16) -> Group
 }
 
 pub(crate) fn refused(refusal: Refusal, group: Group) -> Stepped
-    ensures { λ r. ⌜ ((buffer : List ℕ) → left r buffer ≡ leaves (refused (numberOf refusal)) group buffer) ⌝ }
+    ensures { λ r. ⌜ ((buffer : List ℕ) → toldJoin r buffer ≡ groupAfter (refused (numberOf refusal)) group buffer) ⌝ }
 {
     Stepped {
         answer: Step::Refused(refusal),
@@ -52,7 +52,7 @@ fn keeps_rule(group: Group) -> bool
             numbered
                 & ((1 <= messages)
                     & (messages <= Group::MOST_MESSAGES)
-                    & (held <= MESSAGE_DATA * (messages as usize))
+                    & (held <= MOST_DATA * (messages as usize))
                     & (group.ci <= 3))
         }
     }
@@ -60,11 +60,11 @@ fn keeps_rule(group: Group) -> bool
 
 // Whether the state is as its phase has it and the message within its widths.
 pub(crate) fn within_rules(group: Group, message: Fields, length: usize) -> bool
-    ensures { λ r. ⌜ r ≡ (keepsRule group && within message length) ⌝ }
+    ensures { λ r. ⌜ r ≡ (keepsRule group && messageFits message length) ⌝ }
 {
     keeps_rule(group)
         & ((message.number <= LAST_NUMBER)
-            & (length <= MESSAGE_DATA)
+            & (length <= MOST_DATA)
             & (message.ri <= 3)
             & (message.ci <= 3))
 }
@@ -101,7 +101,7 @@ pub(crate) fn in_step(group: Group, message: Fields) -> bool
 // Writes the data at the counted place. With Last the group is whole.
 pub(crate) fn join_on(group: Group, message: Fields, data: &[u8], buffer: &mut [u8]) -> Stepped
     requires { ⌜ (group .messages < 15) × (group .held + length (now «data») ≤ length (now buffer)) ⌝ }
-    ensures { λ r. ⌜ left r (now (buffer .exit)) ≡ joinedOn group message (now («data» .entry)) (now (buffer .entry)) ⌝ }
+    ensures { λ r. ⌜ toldJoin r (now (buffer .exit)) ≡ joinedOn group message (now («data» .entry)) (now (buffer .entry)) ⌝ }
 {
     let at = group.held;
     let number = group.number;

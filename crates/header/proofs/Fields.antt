@@ -9,7 +9,7 @@ use borrow.Author.Tests.{eq-eqb, eqb-true}
 use lib.ListN.{length, replicate}
 use lib.Pow.{pow-pos, pow-add}
 use Rattle.header.specs.Check.{check}
-use Rattle.header.specs.Fields.{Fit, total, behind, packed, fields, withCheck, header, holds, bytesOf, numberOf}
+use Rattle.header.specs.Fields.{Fit, total, behind, packed, fields, withCheck, header, holds, bytesOf, headerFrom}
 use Rattle.header.proofs.Bits.{check-fits}
 
 -- what stands before the fields is above them
@@ -110,7 +110,7 @@ length-bytes zero h = refl
 length-bytes (suc n) h = ap suc (length-bytes n h)
 
 -- THE BYTES OF A HEADER GIVE IT BACK
-pub bytes-number : (n h : ℕ) → h < 2 ^ (8 * n) → numberOf (bytesOf n h) ≡ h
+pub bytes-number : (n h : ℕ) → h < 2 ^ (8 * n) → headerFrom (bytesOf n h) ≡ h
 bytes-number n h l =
     ap (λ (k : ℕ). packed (replicate k 8) (bytesOf n h)) (length-bytes n h)
     ∙ behind-fields 0 (replicate n 8) h
@@ -118,5 +118,5 @@ bytes-number n h l =
     ∙ omega (arith, mod-eq-of-lt l)
 
 -- AND A HEADER GIVES ITS BYTES BACK
-pub number-bytes : (bytes : List ℕ) → Fit (replicate (length bytes) 8) bytes → bytesOf (length bytes) (numberOf bytes) ≡ bytes
+pub number-bytes : (bytes : List ℕ) → Fit (replicate (length bytes) 8) bytes → bytesOf (length bytes) (headerFrom bytes) ≡ bytes
 number-bytes bytes f = fields-behind 0 (replicate (length bytes) 8) bytes f

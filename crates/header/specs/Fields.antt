@@ -57,8 +57,8 @@ holds n h = eqb (check n (h / 64)) (h % 64)
 abbrev pub bytesOf : ℕ → ℕ → List ℕ
 bytesOf n h = fields (replicate n 8) h
 
-abbrev pub numberOf : List ℕ → ℕ
-numberOf bytes = packed (replicate (length bytes) 8) bytes
+abbrev pub headerFrom : List ℕ → ℕ
+headerFrom bytes = packed (replicate (length bytes) 8) bytes
 
 -- bytes are below 256
 abbrev pub Bytes : List ℕ → Type 0

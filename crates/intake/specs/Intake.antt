@@ -5,10 +5,10 @@ use mathlib.Core.Path.{_≡_}
 use mathlib.Core.List.{List}
 use lib.ListN.{getD}
 use Rattle.log.specs.declared.Reader.{Reader}
-use Rattle.log.specs.Reader.{Told, fresh, run, readOf}
+use Rattle.log.specs.Reader.{ToldLog, freshReader, run, readOf}
 
 -- what is told of the bytes, read as a log
-pub record Came (t : Told) : Type 0 where
+pub record Came (t : ToldLog) : Type 0 where
   pub bytes : List ℕ
   pub small : (k : ℕ) → getD bytes k 0 < 256
   pub read : readOf bytes ≡ t
@@ -17,4 +17,4 @@ pub record Came (t : Told) : Type 0 where
 pub record Reached (s : Reader) : Type 0 where
   pub bytes : List ℕ
   pub small : (k : ℕ) → getD bytes k 0 < 256
-  pub led : run fresh bytes ≡ s
+  pub led : run freshReader bytes ≡ s

@@ -1,5 +1,5 @@
 // A log from standard input, for the programs that report on one (document 01, "The log and its report").
-ghost use Rattle.log.specs.Reader.{told};
+ghost use Rattle.log.specs.Reader.{toldLog};
 ghost use Rattle.intake.specs.Intake.{Reached, Came};
 use libc::STDIN_FILENO;
 use log::LogRead;
@@ -21,7 +21,7 @@ struct Taken {
 // Reads a log on standard input to its end, in pieces of the room that is lent; of a room without bytes nothing comes. Where reading
 // fails, the log is what came until then.
 pub fn read_log(room: &mut [u8]) -> Intake
-    ensures { λ r. ⌜ Came (told (r .log)) ⌝ }
+    ensures { λ r. ⌜ Came (toldLog (r .log)) ⌝ }
 {
     let taken = read_all(room);
     let reader = taken.reader;

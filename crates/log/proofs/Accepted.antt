@@ -6,7 +6,7 @@ use mathlib.Core.List.{List, [], _∷_, _++_, append-nil}
 use Rattle.answers.specs.Numbers.{accepted}
 use Rattle.answers.proofs.Determined.{refused-accepted}
 use Rattle.log.specs.Log.{logText, countsFrom, tuned}
-use Rattle.log.specs.Reader.{Told, readOf}
+use Rattle.log.specs.Reader.{ToldLog, readOf}
 use Rattle.log.specs.Beginning.{Beginning, nothing, lines, textOf, isGood, toldOf, AcceptedLog}
 use Rattle.log.proofs.Plain.{plain-none}
 use Rattle.log.proofs.Refused.{plain-told}
@@ -19,15 +19,15 @@ written-read n os g = ap readOf (sym (append-nil (logText n os))) ∙ plain-told
 
 told-text : (log : List ℕ) (b : Beginning) (rest : List ℕ) → isGood b ≡ true → log ≡ textOf b ++ rest → readOf log ≡ toldOf b rest
     → readOf log .answer ≡ accepted → AcceptedLog log
-told-text log nothing rest g t r e = absurd (refused-accepted 12 (sym (ap (λ (t : Told). t .answer) r) ∙ e))
-told-text log (lines n os) (x ∷ rest) g t r e = absurd (refused-accepted 12 (sym (ap (λ (t : Told). t .answer) r) ∙ e))
+told-text log nothing rest g t r e = absurd (refused-accepted 12 (sym (ap (λ (t : ToldLog). t .answer) r) ∙ e))
+told-text log (lines n os) (x ∷ rest) g t r e = absurd (refused-accepted 12 (sym (ap (λ (t : ToldLog). t .answer) r) ∙ e))
 told-text log (lines n os) [] g t r e =
     record {
       channel = n;
       outcomes = os;
       good = g;
       text = t ∙ append-nil (logText n os);
-      counts = ap (λ (t : Told). t .counts) r;
+      counts = ap (λ (t : ToldLog). t .counts) r;
     }
 
 -- AND AN ACCEPTED LOG IS THE TEXT OF ITS CHANNEL AND OUTCOMES

@@ -8,7 +8,7 @@ use native.Mathlib.Nat.{pow-suc, div-lt-iff-lt-mul, div-add-mod'}
 use lib.ListN.{length, length-append}
 use lib.Dec.{ltb}
 use borrow.Author.Tests.{ltb-true, ltb-false, lt-ltb, le-ltb}
-use Rattle.log.specs.Decimal.{spelled, decimal, numberFrom}
+use Rattle.log.specs.Decimal.{decimalUpTo, decimal, numberFrom}
 use Rattle.log.specs.Reader.{isPlain}
 use Rattle.log.proofs.Lists.{cond-with}
 use Rattle.log.proofs.Plain.{plain-append, plain-one}
@@ -21,20 +21,20 @@ by-ten P n f g = go (ltb n 10) refl
     go true e = f (ltb-true n 10 e)
     go false e = g (ltb-false n 10 e)
 
-spelled-few : (f n : ℕ) → n < 10 → spelled f n ≡ ((48 + n) ∷ [])
-unfolding spelled
+spelled-few : (f n : ℕ) → n < 10 → decimalUpTo f n ≡ ((48 + n) ∷ [])
+unfolding decimalUpTo
 spelled-few zero n h = refl
 spelled-few (suc f) n h = rw (lt-ltb n 10 h)
 
-spelled-more : (f n : ℕ) → 10 ≤ n → spelled (suc f) n ≡ spelled f (n / 10) ++ ((48 + n % 10) ∷ [])
-unfolding spelled
+spelled-more : (f n : ℕ) → 10 ≤ n → decimalUpTo (suc f) n ≡ decimalUpTo f (n / 10) ++ ((48 + n % 10) ∷ [])
+unfolding decimalUpTo
 spelled-more f n h = rw (le-ltb n 10 h)
 
 tenth : (f n : ℕ) → n < 10 ^ suc (suc f) → n / 10 < 10 ^ suc f
 tenth f n h = div-lt-iff-lt-mul {k = 10} (omega arith) .1 (rw (sym (pow-suc 10 (suc f))) h)
 
 -- places that are not needed change nothing
-spelled-same : (f n : ℕ) → n < 10 ^ suc f → spelled (suc f) n ≡ spelled f n
+spelled-same : (f n : ℕ) → n < 10 ^ suc f → decimalUpTo (suc f) n ≡ decimalUpTo f n
 spelled-same zero n h = spelled-few 1 n h ∙ sym (spelled-few 0 n h)
 spelled-same (suc f) n h =
     by-ten _ n (λ k. spelled-few (suc (suc f)) n k ∙ sym (spelled-few (suc f) n k))
@@ -51,8 +51,8 @@ unfolding decimal
 decimal-more n h k =
     spelled-more 18 n h ∙ ap (λ (l : List ℕ). l ++ ((48 + n % 10) ∷ [])) (sym (spelled-same 18 (n / 10) (tenth 18 n k)))
 
-spelled-length : (f n : ℕ) → (1 ≤ length (spelled f n)) × (length (spelled f n) ≤ suc f)
-unfolding spelled
+spelled-length : (f n : ℕ) → (1 ≤ length (decimalUpTo f n)) × (length (decimalUpTo f n) ≤ suc f)
+unfolding decimalUpTo
 spelled-length zero n = (omega arith, omega arith)
 spelled-length (suc f) n =
     by-ten _ n (λ k. rw (spelled-few (suc f) n k) (omega arith, omega arith))
@@ -72,13 +72,13 @@ value-digit : (v d : ℕ) → numberFrom v ((48 + d) ∷ []) ≡ v * 10 + d
 unfolding numberFrom
 value-digit v d = let e : 48 + d - 48 ≡ d = omega arith in ap (λ (k : ℕ). v * 10 + k) e
 
-spelled-value : (f n : ℕ) → n < 10 ^ suc f → numberFrom 0 (spelled f n) ≡ n
+spelled-value : (f n : ℕ) → n < 10 ^ suc f → numberFrom 0 (decimalUpTo f n) ≡ n
 spelled-value zero n h = rw (spelled-few 0 n h) (value-digit 0 n ∙ omega arith)
 spelled-value (suc f) n h =
     by-ten _ n (λ k. rw (spelled-few (suc f) n k) (value-digit 0 n ∙ omega arith))
     (λ k.
     rw (spelled-more f n k)
-    (value-append (spelled f (n / 10)) ((48 + n % 10) ∷ []) 0
+    (value-append (decimalUpTo f (n / 10)) ((48 + n % 10) ∷ []) 0
     ∙ ap (λ (v : ℕ). numberFrom v ((48 + n % 10) ∷ [])) (spelled-value f (n / 10) (tenth f n h))
     ∙ value-digit (n / 10) (n % 10) ∙ div-add-mod' n 10))
 
@@ -91,12 +91,12 @@ pub decimal-once : (m n : ℕ) → m < 10 ^ 20 → n < 10 ^ 20 → decimal m ≡
 decimal-once m n h k e = sym (decimal-value m h) ∙ ap (numberFrom 0) e ∙ decimal-value n k
 
 -- what each digit has, and two texts together
-spelled-with : (P : List ℕ → Type 0) → ((d : ℕ) → P ((48 + d) ∷ [])) → ((a b : List ℕ) → P a → P b → P (a ++ b)) → (f n : ℕ) → P (spelled f n)
-unfolding spelled
+spelled-with : (P : List ℕ → Type 0) → ((d : ℕ) → P ((48 + d) ∷ [])) → ((a b : List ℕ) → P a → P b → P (a ++ b)) → (f n : ℕ) → P (decimalUpTo f n)
+unfolding decimalUpTo
 spelled-with P digit both zero n = digit n
 spelled-with P digit both (suc f) n =
     cond-with P (ltb n 10) (λ e. digit n)
-    (λ e. both (spelled f (n / 10)) ((48 + n % 10) ∷ []) (spelled-with P digit both f (n / 10)) (digit (n % 10)))
+    (λ e. both (decimalUpTo f (n / 10)) ((48 + n % 10) ∷ []) (spelled-with P digit both f (n / 10)) (digit (n % 10)))
 
 pub decimal-with : (P : List ℕ → Type 0) → ((d : ℕ) → P ((48 + d) ∷ [])) → ((a b : List ℕ) → P a → P b → P (a ++ b)) → (n : ℕ) → P (decimal n)
 unfolding decimal

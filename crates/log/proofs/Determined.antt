@@ -9,17 +9,17 @@ use Rattle.log.specs.declared.Reader.{Reader}
 use Rattle.log.specs.declared.LogRead.{LogRead}
 use Rattle.log.specs.declared.Fed.{Fed}
 use Rattle.log.specs.Log.{isCounts}
-use Rattle.log.specs.Reader.{Told, told, ToldFed, toldFed, fresh, readOf, fedOf, endOf}
+use Rattle.log.specs.Reader.{ToldLog, toldLog, ToldFed, toldFed, freshReader, readOf, fedOf, endOf}
 
-pub read-once : (log : List ℕ) (r s : LogRead) → told r ≡ readOf log → told s ≡ readOf log → r ≡ s
+pub read-once : (log : List ℕ) (r s : LogRead) → toldLog r ≡ readOf log → toldLog s ≡ readOf log → r ≡ s
 read-once log r s d e =
     let t = d ∙ sym e in
-    let p = paper-once (r .answer) (s .answer) (ap (λ (t : Told). t .answer) t) in
-    let q = ap (λ (t : Told). t .line) t in
-    let c = ap (λ (t : Told). t .counts) t in
+    let p = paper-once (r .answer) (s .answer) (ap (λ (t : ToldLog). t .answer) t) in
+    let q = ap (λ (t : ToldLog). t .line) t in
+    let c = ap (λ (t : ToldLog). t .counts) t in
     λ i. record { answer = p i; line = q i; counts = c i }
 
-pub start-once : (r s : Reader) → r ≡ fresh → s ≡ fresh → r ≡ s
+pub start-once : (r s : Reader) → r ≡ freshReader → s ≡ freshReader → r ≡ s
 start-once r s d e = d ∙ sym e
 
 -- what is told determines what a piece or the end gives

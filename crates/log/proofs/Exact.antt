@@ -12,7 +12,7 @@ use Rattle.band.specs.Band.{isChannel}
 use Rattle.log.specs.declared.Counts.{Counts}
 use Rattle.log.specs.declared.Reader.{Reader}
 use Rattle.log.specs.Log.{isOutcome, logText, allOutcomes, one, counted, countsFrom, tuned, isSound, isCounts}
-use Rattle.log.specs.Reader.{fresh, readOf, isReader}
+use Rattle.log.specs.Reader.{freshReader, readOf, isReader}
 use Rattle.log.proofs.Lists.{by-cases}
 use Rattle.log.proofs.Sound.{Sound, sound}
 use Rattle.log.proofs.Outcomes.{counted-read, before-sound}
@@ -166,6 +166,6 @@ counts-of-log log e =
     let n = t .channel in
     let os = t .outcomes in
     let g = good n os (t .good) in
-    let k = subst (λ (s : Reader). isReader s ≡ true) (written-run n os (g .band) (g .all) (g .few)) (run-kept fresh (logText n os) fresh-kept .0) in
+    let k = subst (λ (s : Reader). isReader s ≡ true) (written-run n os (g .band) (g .all) (g .few)) (run-kept freshReader (logText n os) fresh-kept .0) in
     rw (t .counts)
     (counts-both (countsFrom (tuned n) os) (ap isChannel (counts-channel os (tuned n)) ∙ g .band) (before-sound _ (ruled _ k .before)))

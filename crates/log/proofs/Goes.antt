@@ -11,7 +11,7 @@ use Rattle.log.specs.declared.Counts.{Counts}
 use Rattle.log.specs.declared.Reader.{Reader}
 use Rattle.log.specs.declared.Phase.the-variants.{Open}
 use Rattle.log.specs.Log.{counted}
-use Rattle.log.specs.Reader.{between, openStep, isOpen, stepOf, run, isBefore}
+use Rattle.log.specs.Reader.{between, openStep, isOpen, afterByte, run, isBefore}
 use Rattle.log.specs.Machine.{Goes, NextSlot}
 use Rattle.log.proofs.Written.{slot-run, slot-before}
 use Rattle.log.proofs.Runs.{run-none, run-cons, run-shut, between-ruled, open-held, heldOf, Kept, step-kept}
@@ -42,9 +42,9 @@ goes-slot piece c i j b w k =
 -- a byte
 pub goes-byte : (piece : List ℕ) (s : Reader) (i : ℕ) → Kept s → isOpen (s .phase) ≡ true → i < length piece
     → Goes piece s i (openStep s (getD piece i 0)) (i + 1)
-unfolding stepOf
+unfolding afterByte
 goes-byte piece s i k o h =
-    let e : stepOf s (getD piece i 0) ≡ openStep s (getD piece i 0) = rw o in
+    let e : afterByte s (getD piece i 0) ≡ openStep s (getD piece i 0) = rw o in
     let q = subst Kept e (step-kept s (getD piece i 0) k) in
     record {
       same = ap (run s) (drop-cons piece i 0 h ∙ ap (λ (m : ℕ). getD piece i 0 ∷ drop m piece) (sym (add-one i)))

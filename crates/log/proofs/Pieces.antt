@@ -5,7 +5,7 @@ use mathlib.Core.List.{List, _++_}
 use Rattle.log.specs.declared.Reader.{Reader}
 use Rattle.log.specs.declared.Phase.{Phase}
 use Rattle.log.specs.declared.Phase.the-variants.{Open, Refused, Ended}
-use Rattle.log.specs.Reader.{fresh, run, fedAt, wholeOf, readOf, fedOf, endOf}
+use Rattle.log.specs.Reader.{freshReader, run, fedAt, wholeOf, readOf, fedOf, endOf}
 use Rattle.log.proofs.Runs.{run-append, run-kept, fresh-kept}
 
 fed-reader : (p : Phase) (s : Reader) → fedAt p s .reader ≡ s
@@ -14,13 +14,13 @@ fed-reader Refused s = refl
 fed-reader Ended s = refl
 
 -- A PIECE LEADS ON AS ITS BYTES DO
-pub piece-next : (log piece : List ℕ) → fedOf (run fresh log) piece .reader ≡ run fresh (log ++ piece)
+pub piece-next : (log piece : List ℕ) → fedOf (run freshReader log) piece .reader ≡ run freshReader (log ++ piece)
 unfolding fedOf
 piece-next log piece =
-    rw (run-kept fresh log fresh-kept .0)
-    (fed-reader (run (run fresh log) piece .phase) (run (run fresh log) piece) ∙ sym (run-append fresh log piece))
+    rw (run-kept freshReader log fresh-kept .0)
+    (fed-reader (run (run freshReader log) piece .phase) (run (run freshReader log) piece) ∙ sym (run-append freshReader log piece))
 
 -- AND THE END GIVES WHAT THE WHOLE LOG GIVES
-pub pieces-end : (log : List ℕ) → wholeOf (endOf (run fresh log)) ≡ readOf log
+pub pieces-end : (log : List ℕ) → wholeOf (endOf (run freshReader log)) ≡ readOf log
 unfolding endOf readOf
-pieces-end log = rw (run-kept fresh log fresh-kept .0)
+pieces-end log = rw (run-kept freshReader log fresh-kept .0)

@@ -11,7 +11,7 @@ use borrow.Author.Tests.{leb-true, leb-false, ne-eqb}
 use Rattle.log.specs.declared.Reader.{Reader}
 use Rattle.log.specs.declared.Phase.the-variants.{Open, Refused}
 use Rattle.log.specs.Log.{logText}
-use Rattle.log.specs.Reader.{Told, between, fresh, run, endedAt, wholeOf, readOf, isPlain}
+use Rattle.log.specs.Reader.{ToldLog, between, freshReader, run, endedAt, wholeOf, readOf, isPlain}
 use Rattle.log.specs.Beginning.{Beginning, nothing, lines, textOf, isGood, countsOf, GoodLine, Stops, refusedAfter, toldOf}
 use Rattle.log.proofs.Lists.{by-cases}
 use Rattle.log.proofs.Plain.{lines-with}
@@ -20,7 +20,7 @@ use Rattle.log.proofs.Written.{written-run}
 use Rattle.log.proofs.Beginnings.{good, slots-are, tuned-some, next-line}
 
 -- the end of a reader, told
-abbrev ends : Reader → Told
+abbrev ends : Reader → ToldLog
 ends s = wholeOf (endedAt (s .phase) s)
 
 after-told : (b : Beginning) (rest : List ℕ) (s : Reader) → isGood b ≡ true → run (between Open (countsOf b)) rest ≡ s
@@ -29,7 +29,7 @@ unfolding readOf
 after-told nothing rest s g e = ap ends e
 after-told (lines n os) rest s g e =
     let h = good n os g in
-    ap ends (run-append fresh (logText n os) rest ∙ ap (λ (r : Reader). run r rest) (written-run n os (h .band) (h .all) (h .few)) ∙ e)
+    ap ends (run-append freshReader (logText n os) rest ∙ ap (λ (r : Reader). run r rest) (written-run n os (h .band) (h .all) (h .few)) ∙ e)
 
 shut-told : (b : Beginning) (rest : List ℕ) → isGood b ≡ true → run (between Open (countsOf b)) rest ≡ between Refused (countsOf b)
     → readOf (textOf b ++ rest) ≡ refusedAfter b

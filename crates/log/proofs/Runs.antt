@@ -16,7 +16,7 @@ use Rattle.log.specs.declared.Reader.{Reader}
 use Rattle.log.specs.declared.Phase.{Phase}
 use Rattle.log.specs.declared.Phase.the-variants.{Open, Refused, Ended}
 use Rattle.log.specs.Log.{isSound, judged}
-use Rattle.log.specs.Reader.{ToldFed, between, fresh, lineOf, afterLine, openStep, isOpen, stepOf, run, badLine, fine, fedAt, endedAt, isPlain, isHeld, isHolding, isBefore, isReader}
+use Rattle.log.specs.Reader.{ToldFed, between, freshReader, lineOf, afterLine, openStep, isOpen, afterByte, run, badLine, fine, fedAt, endedAt, isPlain, isHeld, isHolding, isBefore, isReader}
 use Rattle.log.proofs.Lists.{cond-with, by-cases, same-refl, same-true}
 use Rattle.log.proofs.Plain.{plain-none, plain-append, plain-one, plain-tail}
 use Rattle.log.proofs.Outcomes.{judged-before}
@@ -25,7 +25,7 @@ pub run-none : (s : Reader) → run s [] ≡ s
 unfolding run
 run-none s = refl
 
-pub run-cons : (s : Reader) (b : ℕ) (bs : List ℕ) → run s (b ∷ bs) ≡ run (stepOf s b) bs
+pub run-cons : (s : Reader) (b : ℕ) (bs : List ℕ) → run s (b ∷ bs) ≡ run (afterByte s b) bs
 unfolding run
 run-cons s b bs = refl
 
@@ -33,7 +33,7 @@ run-cons s b bs = refl
 pub run-append : (s : Reader) (a b : List ℕ) → run s (a ++ b) ≡ run (run s a) b
 unfolding run
 run-append s [] b = refl
-run-append s (x ∷ a) b = run-append (stepOf s x) a b
+run-append s (x ∷ a) b = run-append (afterByte s x) a b
 
 abbrev pub zeros : List ℕ
 zeros = replicate 63 0
@@ -45,8 +45,8 @@ heldOf c l = record { phase = Open; counts = c; held = l ++ drop (length l) zero
 same-reader : (a b : Reader) → a .phase ≡ b .phase → a .counts ≡ b .counts → a .held ≡ b .held → a .length ≡ b .length → a ≡ b
 same-reader a b p q r s = λ i. record { phase = p i; counts = q i; held = r i; length = s i }
 
-step-hold : (c : Counts) (a : List ℕ) (x : ℕ) → eqb x 10 ≡ false → length a < 63 → stepOf (heldOf c a) x ≡ heldOf c (a ++ (x ∷ []))
-unfolding stepOf openStep
+step-hold : (c : Counts) (a : List ℕ) (x : ℕ) → eqb x 10 ≡ false → length a < 63 → afterByte (heldOf c a) x ≡ heldOf c (a ++ (x ∷ []))
+unfolding afterByte openStep
 step-hold c a x e h =
     let k : length a < length zeros = h in
     let d = drop-cons zeros (length a) 0 k in
@@ -71,8 +71,8 @@ held-line : (c : Counts) (l : List ℕ) → lineOf (heldOf c l) ≡ l
 held-line c l = take-append-seam l (drop (length l) zeros)
 
 -- and judged at its line feed
-step-feed : (c : Counts) (l : List ℕ) → stepOf (heldOf c l) 10 ≡ afterLine (judged c l)
-unfolding stepOf openStep
+step-feed : (c : Counts) (l : List ℕ) → afterByte (heldOf c l) 10 ≡ afterLine (judged c l)
+unfolding afterByte openStep
 step-feed c l = ap (λ (k : List ℕ). afterLine (judged c k)) (held-line c l)
 
 pub line-run : (c : Counts) (l rest : List ℕ) → isPlain l ≡ true → length l ≤ 63
@@ -83,7 +83,7 @@ line-run c l rest p h =
 
 -- after a refusal nothing changes
 pub run-shut : (s : Reader) (l : List ℕ) → isOpen (s .phase) ≡ false → run s l ≡ s
-unfolding run stepOf
+unfolding run afterByte
 run-shut s [] h = refl
 run-shut s (b ∷ bs) h = rw h (run-shut s bs h)
 
@@ -159,8 +159,8 @@ after-kept c l b =
 held-full : (c : Counts) (l : List ℕ) → length l ≤ 63 → length (heldOf c l .held) ≡ 63
 held-full c l h = rw (length-append, length-drop) (omega (arith, length-replicate {A = ℕ} 63 0))
 
-step-over : (c : Counts) (l : List ℕ) (b : ℕ) → eqb b 10 ≡ false → ltb (length l) 63 ≡ false → stepOf (heldOf c l) b ≡ between Refused c
-unfolding stepOf openStep
+step-over : (c : Counts) (l : List ℕ) (b : ℕ) → eqb b 10 ≡ false → ltb (length l) 63 ≡ false → afterByte (heldOf c l) b ≡ between Refused c
+unfolding afterByte openStep
 step-over c l b e f = rw (e, f)
 
 -- a 64th byte that is no line feed is refused, whatever follows
@@ -178,10 +178,10 @@ over-run (x ∷ l) c a rest p h k =
     ap (λ (s : Reader). run s (l ++ rest)) (step-hold c a x e g) ∙ over-run l c (a ++ (x ∷ [])) rest (t .1) (omega arith) (omega arith))
     (λ f. ap (λ (s : Reader). run s (l ++ rest)) (step-over c a x e f) ∙ run-shut (between Refused c) (l ++ rest) refl)
 
-step-held : (c : Counts) (l : List ℕ) (b : ℕ) → isBefore c ≡ true → isPlain l ≡ true → length l ≤ 63 → Kept (stepOf (heldOf c l) b)
+step-held : (c : Counts) (l : List ℕ) (b : ℕ) → isBefore c ≡ true → isPlain l ≡ true → length l ≤ 63 → Kept (afterByte (heldOf c l) b)
 step-held c l b k p h =
     by-cases _ (eqb b 10)
-    (λ e. subst (λ (x : ℕ). Kept (stepOf (heldOf c l) x)) (sym (eqb-true b 10 e)) (rw (step-feed c l) (after-kept c l k)))
+    (λ e. subst (λ (x : ℕ). Kept (afterByte (heldOf c l) x)) (sym (eqb-true b 10 e)) (rw (step-feed c l) (after-kept c l k)))
     (λ e. by-cases _ (ltb (length l) 63)
     (λ f.
     let g = ltb-true (length l) 63 f in
@@ -190,23 +190,23 @@ step-held c l b k p h =
     (held-ruled c (l ++ (b ∷ [])) k (plain-append l (b ∷ []) p (plain-one b (eqb-false b 10 e))) m, held-full c (l ++ (b ∷ [])) m))
     (λ f. rw (step-over c l b e f) (between-ruled Refused c refl k, refl)))
 
-pub step-kept : (s : Reader) (b : ℕ) → Kept s → Kept (stepOf s b)
-unfolding stepOf
+pub step-kept : (s : Reader) (b : ℕ) → Kept s → Kept (afterByte s b)
+unfolding afterByte
 step-kept s b k =
     by-cases _ (isOpen (s .phase))
     (λ o.
     let r = ruled s (k .0) in
     let n : length (lineOf s) ≤ 63 = rw (length-take-le (s .length) (s .held) (omega (arith, reader-small s (k .0), k .1))) (reader-small s (k .0)) in
-    subst (λ (t : Reader). Kept (stepOf t b)) (sym (open-held s (k .0) (k .1) o)) (step-held (s .counts) (lineOf s) b (r .before) (r .plain) n))
+    subst (λ (t : Reader). Kept (afterByte t b)) (sym (open-held s (k .0) (k .1) o)) (step-held (s .counts) (lineOf s) b (r .before) (r .plain) n))
     (λ o. rw o k)
 
 -- THE RULE HOLDS OF EVERY READER THAT PIECES LEAD TO
 pub run-kept : (s : Reader) (l : List ℕ) → Kept s → Kept (run s l)
 unfolding run
 run-kept s [] k = k
-run-kept s (b ∷ bs) k = run-kept (stepOf s b) bs (step-kept s b k)
+run-kept s (b ∷ bs) k = run-kept (afterByte s b) bs (step-kept s b k)
 
-pub fresh-kept : Kept fresh
+pub fresh-kept : Kept freshReader
 unfolding isReader isHeld isPlain isBefore isSound
 fresh-kept = (refl, refl)
 

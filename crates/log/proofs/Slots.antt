@@ -13,11 +13,11 @@ use borrow.Author.Tests.{ltb-true, ltb-false}
 use Rattle.log.specs.declared.Counts.{Counts}
 use Rattle.log.specs.Decimal.{decimal}
 use Rattle.log.specs.Log.{slotLine, isOutcome}
-use Rattle.log.specs.Machine.{Reads, NextSlot}
+use Rattle.log.specs.Machine.{DigitsAt, NextSlot}
 use Rattle.log.proofs.Lists.{by-cases}
 use Rattle.log.proofs.Decimal.{decimal-few, decimal-more}
 
-pub reads-none : (text : List ℕ) (i : ℕ) → Reads text i i 0
+pub reads-none : (text : List ℕ) (i : ℕ) → DigitsAt text i i 0
 reads-none text i =
     let z : i - i ≡ 0 = omega arith in
     record { few = rw z (omega arith); positive = λ h. absurd (omega arith); spelt = λ h. absurd (omega arith); on = omega arith; short = omega arith }
@@ -29,7 +29,7 @@ decimal-digit n b h k l m =
     decimal-more (n * 10 + (b - 48)) (omega arith) k ∙ rw (q, r)
 
 -- a digit more, after none or some
-first-digit : (text : List ℕ) (i j n b : ℕ) → Reads text i j n → j ≤ i → 48 ≤ b → b ≤ 57
+first-digit : (text : List ℕ) (i j n b : ℕ) → DigitsAt text i j n → j ≤ i → 48 ≤ b → b ≤ 57
     → take (j - i) (drop i text) ++ (b ∷ []) ≡ decimal (n * 10 + (b - 48))
 first-digit text i j n b r h l m =
     let z : j - i ≡ 0 = omega arith in
@@ -37,17 +37,17 @@ first-digit text i j n b r h l m =
     let e : 48 + (n * 10 + (b - 48)) ≡ b = omega arith in
     rw z (sym (decimal-few (n * 10 + (b - 48)) (omega arith) ∙ ap (λ (x : ℕ). x ∷ []) e))
 
-next-digit : (text : List ℕ) (i j n b : ℕ) → Reads text i j n → i < j → n < 10 ^ 6 → 48 ≤ b → b ≤ 57
+next-digit : (text : List ℕ) (i j n b : ℕ) → DigitsAt text i j n → i < j → n < 10 ^ 6 → 48 ≤ b → b ≤ 57
     → take (j - i) (drop i text) ++ (b ∷ []) ≡ decimal (n * 10 + (b - 48))
 next-digit text i j n b r h s l m =
     rw (r .spelt h) (sym (decimal-digit n b (r .positive h) (omega arith) l m))
 
 -- so many digits spell a number below a million
-pub reads-small : (text : List ℕ) (i j n : ℕ) → Reads text i j n → n < 10 ^ 6
+pub reads-small : (text : List ℕ) (i j n : ℕ) → DigitsAt text i j n → n < 10 ^ 6
 reads-small text i j n r = omega (arith, r .few, pow-le-pow-right {n = 10} (omega arith) {i = j - i} {j = 6} (omega (arith, r .short)))
 
-pub reads-digit : (text : List ℕ) (i j n : ℕ) → Reads text i j n → j < i + 6 → j < length text → (getD text i 0 ≡ 48 → ⊥)
-    → 48 ≤ getD text j 0 → getD text j 0 ≤ 57 → Reads text i (j + 1) (n * 10 + (getD text j 0 - 48))
+pub reads-digit : (text : List ℕ) (i j n : ℕ) → DigitsAt text i j n → j < i + 6 → j < length text → (getD text i 0 ≡ 48 → ⊥)
+    → 48 ≤ getD text j 0 → getD text j 0 ≤ 57 → DigitsAt text i (j + 1) (n * 10 + (getD text j 0 - 48))
 reads-digit text i j n r s h z l m =
     let b = getD text j 0 in
     let e : j + 1 - i ≡ suc (j - i) = omega (arith, r .on) in
@@ -81,7 +81,7 @@ three-on l j x y z h p q r =
     on : (i b : ℕ) → i < length l → getD l i 0 ≡ b → drop i l ≡ b ∷ drop (i + 1) l
     on i b h e = drop-cons l i 0 h ∙ ap₂ (λ (b m : ℕ). b ∷ drop m l) e (sym (add-one i))
 
-pub next-slot : (c : Counts) (piece : List ℕ) (i j : ℕ) → Reads piece i j (c .slots + 1) → eqb (c .channel) 0 ≡ false → j + 2 < length piece
+pub next-slot : (c : Counts) (piece : List ℕ) (i j : ℕ) → DigitsAt piece i j (c .slots + 1) → eqb (c .channel) 0 ≡ false → j + 2 < length piece
     → getD piece j 0 ≡ 9 → isOutcome (getD piece (j + 1) 0) ≡ true → getD piece (j + 2) 0 ≡ 10 → NextSlot c piece i (j + 2)
 unfolding slotLine
 next-slot c piece i j r t h p o q =
@@ -100,7 +100,7 @@ next-slot c piece i j r t h p o q =
       on = omega (arith, r .on);
     }
   where
-    some-digit : (text : List ℕ) (i j n : ℕ) → Reads text i j (n + 1) → i < j
+    some-digit : (text : List ℕ) (i j n : ℕ) → DigitsAt text i j (n + 1) → i < j
     some-digit text i j n r =
         by-cases _ (ltb i j) (ltb-true i j)
         (λ t.

@@ -17,7 +17,7 @@ use Rattle.log.specs.declared.Reader.{Reader}
 use Rattle.log.specs.declared.Phase.the-variants.{Open}
 use Rattle.log.specs.Decimal.{decimal}
 use Rattle.log.specs.Log.{tab, firstLine, slotLine, isOutcome, slotLines, logText, allOutcomes, counted, countsFrom, tuned, last, channelUpTo, isNext, judged}
-use Rattle.log.specs.Reader.{between, fresh, afterLine, run, isPlain, isBefore}
+use Rattle.log.specs.Reader.{between, freshReader, afterLine, run, isPlain, isBefore}
 use Rattle.log.proofs.Lists.{by-cases, same-refl, same-true}
 use Rattle.log.proofs.Decimal.{decimal-length, decimal-plain, decimal-once}
 use Rattle.log.proofs.Lines.{channelTab, channel-here, channel-next}
@@ -142,7 +142,7 @@ slots-run (o ∷ os) c z g h =
     ∙ counted-next c o os _ (slots-run os (counted c o) (counted-channel c o z) (a .1) (counted-few c o (length os) (omega arith)))
 
 pub written-run : (n : ℕ) (os : List ℕ) → isChannel n ≡ true → allOutcomes os ≡ true → length os ≤ 999999
-    → run fresh (logText n os) ≡ between Open (countsFrom (tuned n) os)
+    → run freshReader (logText n os) ≡ between Open (countsFrom (tuned n) os)
 unfolding logText
 written-run n os e g h =
     line-run (tuned 0) (firstLine n) (slotLines 1 os) (first-plain n) (first-length n)

@@ -10,7 +10,7 @@ use Rattle.answers.specs.Numbers.{accepted, refused}
 use Rattle.band.specs.Band.{isChannel}
 use Rattle.log.specs.declared.Counts.{Counts}
 use Rattle.log.specs.Log.{lineFeed, firstLine, slotLine, isOutcome, logText, allOutcomes, countsFrom, tuned}
-use Rattle.log.specs.Reader.{Told, readOf}
+use Rattle.log.specs.Reader.{ToldLog, readOf}
 
 -- The lines that a log begins with: none, or the first line and one line a slot.
 pub data Beginning : Type 0 where
@@ -50,11 +50,11 @@ abbrev pub Stops : Beginning → List ℕ → Type 0
 Stops beginning rest = (line more : List ℕ) → rest ≡ line ++ (lineFeed ∷ more) → GoodLine beginning line → ⊥
 
 -- 12 with the number of the next line, and the counts before it
-abbrev pub refusedAfter : Beginning → Told
+abbrev pub refusedAfter : Beginning → ToldLog
 refusedAfter beginning = record { answer = refused 12; line = nextLine beginning; counts = countsOf beginning }
 
 -- What is told of a beginning and a rest: accepted where there is a first line and nothing is left.
-abbrev pub toldOf : Beginning → List ℕ → Told
+abbrev pub toldOf : Beginning → List ℕ → ToldLog
 toldOf nothing rest = refusedAfter nothing
 toldOf (lines channel outcomes) [] = record { answer = accepted; line = 0; counts = countsOf (lines channel outcomes) }
 toldOf (lines channel outcomes) (b ∷ rest) = refusedAfter (lines channel outcomes)

@@ -5,13 +5,13 @@ use mathlib.Core.List.{List, [], _∷_, _++_}
 use lib.Dec.{ltb}
 
 -- the digits of a number that has at most `more` digits besides its last
-unfoldable pub spelled : ℕ → ℕ → List ℕ
-spelled zero n = (48 + n) ∷ []
-spelled (suc more) n = cond (ltb n 10) ((48 + n) ∷ []) (spelled more (n / 10) ++ ((48 + n % 10) ∷ []))
+unfoldable pub decimalUpTo : ℕ → ℕ → List ℕ
+decimalUpTo zero n = (48 + n) ∷ []
+decimalUpTo (suc more) n = cond (ltb n 10) ((48 + n) ∷ []) (decimalUpTo more (n / 10) ++ ((48 + n % 10) ∷ []))
 
 -- a number of up to twenty digits, as every number of 64 bits is
 unfoldable pub decimal : ℕ → List ℕ
-decimal n = spelled 19 n
+decimal n = decimalUpTo 19 n
 
 -- the number that digits spell, read on from that of the digits before them
 unfoldable pub numberFrom : ℕ → List ℕ → ℕ

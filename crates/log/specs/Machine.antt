@@ -20,7 +20,7 @@ pub record Goes (piece : List ℕ) (s : Reader) (i : ℕ) (t : Reader) (j : ℕ)
   pub within : j ≤ length piece
 
 -- from i up to j n stands in decimal, or nothing does; a number of so many digits is below that power of ten
-pub record Reads (text : List ℕ) (i j n : ℕ) : Type 0 where
+pub record DigitsAt (text : List ℕ) (i j n : ℕ) : Type 0 where
   pub few : n < 10 ^ (j - i)
   pub positive : i < j → 1 ≤ n
   pub spelt : i < j → take (j - i) (drop i text) ≡ decimal n

@@ -18,13 +18,13 @@ use Rattle.log.specs.declared.LogRead.{LogRead}
 use Rattle.log.specs.Log.{lineFeed, tuned, isSound, judged}
 
 -- What is told of a log: the paper's answer, the number of the line that was refused or 0, and the counts before that line or of all.
-pub record Told : Type 0 where
+pub record ToldLog : Type 0 where
   pub answer : Paper
   pub line : ℕ
   pub counts : Counts
 
-abbrev pub told : LogRead → Told
-told r = record { answer = paper (r .answer); line = r .line; counts = r .counts }
+abbrev pub toldLog : LogRead → ToldLog
+toldLog r = record { answer = paper (r .answer); line = r .line; counts = r .counts }
 
 -- What is told of a piece, or of the end: the same, and the reader that it leaves.
 pub record ToldFed : Type 0 where
@@ -41,8 +41,8 @@ toldFed r = record { answer = paper (r .answer); line = r .line; reader = r .rea
 abbrev pub between : Phase → Counts → Reader
 between phase counts = record { phase = phase; counts = counts; held = replicate 63 0; length = 0 }
 
-abbrev pub fresh : Reader
-fresh = between Open (tuned 0)
+abbrev pub freshReader : Reader
+freshReader = between Open (tuned 0)
 
 -- the line so far
 abbrev pub lineOf : Reader → List ℕ
@@ -68,12 +68,12 @@ isOpen Refused = false
 isOpen Ended = false
 
 -- after a refused line nothing counts
-unfoldable pub stepOf : Reader → ℕ → Reader
-stepOf s b = cond (isOpen (s .phase)) (openStep s b) s
+unfoldable pub afterByte : Reader → ℕ → Reader
+afterByte s b = cond (isOpen (s .phase)) (openStep s b) s
 
 unfoldable pub run : Reader → List ℕ → Reader
 run s [] = s
-run s (b ∷ bs) = run (stepOf s b) bs
+run s (b ∷ bs) = run (afterByte s b) bs
 
 -- ---- answers
 
@@ -102,11 +102,11 @@ endedAt Refused s = badLine s
 endedAt Ended s = fine s
 
 -- the whole log
-abbrev pub wholeOf : ToldFed → Told
+abbrev pub wholeOf : ToldFed → ToldLog
 wholeOf t = record { answer = t .answer; line = t .line; counts = t .reader .counts }
 
-unfoldable pub readOf : List ℕ → Told
-readOf log = wholeOf (endedAt (run fresh log .phase) (run fresh log))
+unfoldable pub readOf : List ℕ → ToldLog
+readOf log = wholeOf (endedAt (run freshReader log .phase) (run freshReader log))
 
 -- ---- a log in pieces
 

@@ -8,7 +8,7 @@ mod slot;
 
 pub use count::is_counts;
 ghost use mathlib.Core.Path.{_≡_};
-ghost use Rattle.log.specs.Reader.{told, toldFed, fresh, between, badLine, noReader, endedAt, isBefore, isReader, readOf, fedOf, endOf};
+ghost use Rattle.log.specs.Reader.{toldLog, toldFed, freshReader, between, badLine, noReader, endedAt, isBefore, isReader, readOf, fedOf, endOf};
 ghost use mathlib.Core.Bool.{true};
 use answers::Answer;
 use answers::Refusal;
@@ -64,7 +64,7 @@ struct Judged {
 
 // Reads a whole log. Refused: 12 at the first bad line, with its number and the counts before it.
 pub fn read(log: &[u8]) -> LogRead
-    ensures { λ r. ⌜ told r ≡ readOf (now (log .entry)) ⌝ }
+    ensures { λ r. ⌜ toldLog r ≡ readOf (now (log .entry)) ⌝ }
 {
     let last = after_end(machine::run(start(), log));
     let reader = last.reader;
@@ -79,7 +79,7 @@ pub fn read(log: &[u8]) -> LogRead
 
 // A reader before the first byte.
 pub fn start() -> Reader
-    ensures { λ r. ⌜ r ≡ fresh ⌝ }
+    ensures { λ r. ⌜ r ≡ freshReader ⌝ }
 {
     machine::between_lines(Phase::Open, count::tuned_to(0))
 }

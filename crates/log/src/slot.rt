@@ -6,7 +6,7 @@ ghost use lib.ListN.{length, getD};
 ghost use lib.Dec.{eqb};
 ghost use Rattle.log.specs.Log.{tab, lineFeed, isOutcome};
 ghost use Rattle.log.specs.Reader.{isBefore};
-ghost use Rattle.log.specs.Machine.{NextSlot, Reads};
+ghost use Rattle.log.specs.Machine.{NextSlot, DigitsAt};
 use crate::Counts;
 use crate::count;
 
@@ -49,7 +49,7 @@ pub(crate) fn slot_end(counts: Counts, piece: &[u8], from: usize) -> usize
 fn digits_at(text: &[u8], from: usize) -> Numeral
     requires { ⌜ from + 6 ≤ length (now text) ⌝ }
     requires { ⌜ (getD (now text) from 0 ≡ 48 → ⊥) ⌝ }
-    ensures { λ r. ⌜ Reads (now (text .entry)) from (r .end) (r .number) ⌝ }
+    ensures { λ r. ⌜ DigitsAt (now (text .entry)) from (r .end) (r .number) ⌝ }
 {
     let mut number = 0;
     let mut at = from;

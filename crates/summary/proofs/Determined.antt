@@ -7,16 +7,16 @@ use Rattle.log.specs.declared.Counts.{Counts}
 use Rattle.summary.specs.declared.Summary.{Summary}
 use Rattle.summary.specs.declared.Summarised.{Summarised}
 use Rattle.summary.specs.declared.Written.{Written}
-use Rattle.summary.specs.Summary.{Told, told, summarisedOf}
-use Rattle.summary.specs.Report.{Told as Report·Told, told as Report·told, reportedOf}
+use Rattle.summary.specs.Summary.{ToldSummary, toldSummary, summarisedOf}
+use Rattle.summary.specs.Report.{ToldText as Report·Told, toldText as Report·told, reportedOf}
 use Rattle.summary.specs.Export.{exportedOf}
 
 -- THE PROMISE OF `summarise` DETERMINES THE ANSWER AND THE RECORD
-pub summarise-once : (counts : Counts) (r s : Summarised) → told r ≡ summarisedOf counts → told s ≡ summarisedOf counts → r ≡ s
+pub summarise-once : (counts : Counts) (r s : Summarised) → toldSummary r ≡ summarisedOf counts → toldSummary s ≡ summarisedOf counts → r ≡ s
 summarise-once counts r s u v =
     let e = u ∙ sym v in
-    let p = paper-once (r .answer) (s .answer) (ap (λ (t : Told). t .answer) e) in
-    let q = ap (λ (t : Told). t .summary) e in
+    let p = paper-once (r .answer) (s .answer) (ap (λ (t : ToldSummary). t .answer) e) in
+    let q = ap (λ (t : ToldSummary). t .summary) e in
     λ i. record { answer = p i; summary = q i }
 
 -- the answer, the length and every byte of the output

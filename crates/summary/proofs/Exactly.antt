@@ -12,12 +12,12 @@ use lib.Ieee.{Float, binary64, ofBits, ofFields, odd, toBits}
 use lib.Ieee.Bits.{ofBits-toBits}
 use lib.Ieee.Positive.{num, den, den-pos}
 use borrow.Author.Tests.{eqb-true, eqb-false}
-use Rattle.log.specs.Decimal.{spelled, decimal}
+use Rattle.log.specs.Decimal.{decimalUpTo, decimal}
 use Rattle.log.specs.declared.Counts.{Counts}
 use Rattle.log.proofs.Lists.{by-cases, cond-with}
 use Rattle.summary.specs.declared.Summary.{Summary}
 use Rattle.summary.specs.Report.{frequency}
-use Rattle.summary.specs.Export.{decimals, expansion, cell, rowOf}
+use Rattle.summary.specs.Export.{decimals, expansion, cell, sheetRow}
 use Rattle.summary.specs.Building.{Measured, Scaled, scaled}
 use Rattle.summary.proofs.Fits.{Short, two, number-short, ended-short}
 use Rattle.summary.proofs.Expansion.{expansion-same, decimals-done, decimals-next}
@@ -25,7 +25,7 @@ use Rattle.summary.proofs.Decode.{fieldOf, digitsOf, Decoded, decoded}
 
 -- no bits: zero
 pub zero-text : (x : Float) → Measured x → toBits binary64 x ≡ 0 → (48 ∷ []) ≡ expansion (num x) (den x)
-unfolding ofBits ofFields odd expansion decimal spelled
+unfolding ofBits ofFields odd expansion decimal decimalUpTo
 zero-text x m e =
     let z : x ≡ ofBits binary64 0 = sym (ofBits-toBits binary64 x (m .holds)) ∙ ap (ofBits binary64) e in
     sym (ap (λ (y : Float). expansion (num y) (den y)) z)
@@ -111,8 +111,8 @@ unfolding cell
 cell-short true x m = number-fits x m
 cell-short false x m = record { most = omega arith }
 
-row-short : (c : Counts) (s : Summary) → Measured (s .mean) → Measured (s .missing) → Short (rowOf c s) 377
-unfolding rowOf
+row-short : (c : Counts) (s : Summary) → Measured (s .mean) → Measured (s .missing) → Short (sheetRow c s) 377
+unfolding sheetRow
 row-short c s m n =
     two (ended-short 9 (number-short (c .channel)))
     (two (ended-short 9 (number-short (frequency c)))
@@ -126,5 +126,5 @@ row-short c s m n =
     (two (ended-short 9 (cell-short (s .«mean_exists») (s .mean) m)) (ended-short 10 (cell-short (s .«missing_exists») (s .missing) n)))))))))))
 
 -- EVERY ROW FITS THE ROOM OF A TEXT
-pub row-fits : (c : Counts) (s : Summary) → Measured (s .mean) → Measured (s .missing) → length (rowOf c s) ≤ 384
+pub row-fits : (c : Counts) (s : Summary) → Measured (s .mean) → Measured (s .missing) → length (sheetRow c s) ≤ 384
 row-fits c s m n = omega (arith, row-short c s m n .most)

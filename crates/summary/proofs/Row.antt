@@ -15,7 +15,7 @@ use Rattle.log.proofs.Lists.{cond-with}
 use Rattle.log.proofs.Decimal.{decimal-with}
 use Rattle.summary.specs.declared.Summary.{Summary}
 use Rattle.summary.specs.Report.{ended, frequency}
-use Rattle.summary.specs.Export.{decimals, expansion, cell, rowOf}
+use Rattle.summary.specs.Export.{decimals, expansion, cell, sheetRow}
 use Rattle.summary.specs.Cells.{isField, AfterFields, InRow}
 
 -- a digit, or the point
@@ -58,8 +58,8 @@ number : (n k : ℕ) (more rest : List ℕ) → AfterFields k more rest → Afte
 number n k more rest f = (decimal n, more, decimal-field n, refl, f)
 
 -- THE TWO CELLS ARE THE LAST TWO OF THE ELEVEN FIELDS THAT THE TABS OF A ROW PART
-pub row-cells : (counts : Counts) (summary : Summary) → InRow summary (rowOf counts summary)
-unfolding rowOf
+pub row-cells : (counts : Counts) (summary : Summary) → InRow summary (sheetRow counts summary)
+unfolding sheetRow
 row-cells c s =
     record {
       text = number (c .channel) 8 _ _ (number (frequency c) 7 _ _ (number (c .slots) 6 _ _ (number (c .read) 5 _ _ (number (c .clean) 4 _ _

@@ -11,7 +11,7 @@ use Rattle.log.specs.Decimal.{decimal}
 use Rattle.log.specs.Log.{tab, lineFeed, isCounts}
 use Rattle.summary.specs.declared.Summary.{Summary}
 use Rattle.summary.specs.Summary.{summaryOf}
-use Rattle.summary.specs.Report.{ended, frequency, Told, notWritten, written}
+use Rattle.summary.specs.Report.{ended, frequency, ToldText, notDelivered, delivered}
 
 -- the decimals of r / d by long division, until nothing is left of r, and at most so many
 unfoldable pub decimals : ℕ → ℕ → ℕ → List ℕ
@@ -27,8 +27,8 @@ unfoldable pub cell : Bool → Float → List ℕ
 cell exists x = cond exists (expansion (num x) (den x)) []
 
 -- channel, kilohertz, the seven counts, the mean and the missing share, parted by tabs and ended by a line feed
-unfoldable pub rowOf : Counts → Summary → List ℕ
-rowOf counts summary =
+unfoldable pub sheetRow : Counts → Summary → List ℕ
+sheetRow counts summary =
     ended (decimal (counts .channel)) tab
     ++ (ended (decimal (frequency counts)) tab
     ++ (ended (decimal (counts .slots)) tab
@@ -53,8 +53,8 @@ isSummary s t =
     && sameBits (s .missing) (t .missing)
 
 -- 11 for counts that no accepted log gives, and for a record that is not their summary
-unfoldable pub exportedOf : Counts → Summary → List ℕ → Told
+unfoldable pub exportedOf : Counts → Summary → List ℕ → ToldText
 exportedOf counts summary out =
-    unless (isCounts counts) (notWritten 11 out)
-    (unless (isSummary summary (summaryOf counts)) (notWritten 11 out)
-    (written (rowOf counts summary) out))
+    unless (isCounts counts) (notDelivered 11 out)
+    (unless (isSummary summary (summaryOf counts)) (notDelivered 11 out)
+    (delivered (sheetRow counts summary) out))

@@ -53,24 +53,24 @@ unfoldable pub reportOf : Counts → List ℕ
 reportOf counts = readLines counts ++ (unreadLines counts ++ meanLine counts)
 
 -- What is told of a text that was asked for: the paper's answer, the text's length, and the lent output as it is left.
-pub record Told : Type 0 where
+pub record ToldText : Type 0 where
   pub answer : Paper
   pub length : ℕ
   pub out : List ℕ
 
-abbrev pub told : Written → List ℕ → Told
-told r out = record { answer = paper (r .answer); length = r .length; out = out }
+abbrev pub toldText : Written → List ℕ → ToldText
+toldText r out = record { answer = paper (r .answer); length = r .length; out = out }
 
 -- a refusal leaves the output as before
-abbrev pub notWritten : ℕ → List ℕ → Told
-notWritten number out = record { answer = refused number; length = 0; out = out }
+abbrev pub notDelivered : ℕ → List ℕ → ToldText
+notDelivered number out = record { answer = refused number; length = 0; out = out }
 
 -- 10 for an output that is shorter; else the text stands at its start, and the bytes after it stay
-abbrev pub written : List ℕ → List ℕ → Told
-written text out =
-    unless (leb (length text) (length out)) (notWritten 10 out)
+abbrev pub delivered : List ℕ → List ℕ → ToldText
+delivered text out =
+    unless (leb (length text) (length out)) (notDelivered 10 out)
     (record { answer = accepted; length = length text; out = text ++ drop (length text) out })
 
 -- 11 for counts that no accepted log gives
-unfoldable pub reportedOf : Counts → List ℕ → Told
-reportedOf counts out = unless (isCounts counts) (notWritten 11 out) (written (reportOf counts) out)
+unfoldable pub reportedOf : Counts → List ℕ → ToldText
+reportedOf counts out = unless (isCounts counts) (notDelivered 11 out) (delivered (reportOf counts) out)

@@ -50,15 +50,15 @@ abbrev pub noSummary : Summary
 noSummary = record { «mean_exists» = false; mean = positiveZero; «missing_exists» = false; missing = positiveZero }
 
 -- What is told of a summary: the paper's answer, and the record.
-pub record Told : Type 0 where
+pub record ToldSummary : Type 0 where
   pub answer : Paper
   pub summary : Summary
 
-abbrev pub told : Summarised → Told
-told r = record { answer = paper (r .answer); summary = r .summary }
+abbrev pub toldSummary : Summarised → ToldSummary
+toldSummary r = record { answer = paper (r .answer); summary = r .summary }
 
 -- counts that no accepted log gives are 11
-unfoldable pub summarisedOf : Counts → Told
+unfoldable pub summarisedOf : Counts → ToldSummary
 summarisedOf counts =
     unless (isCounts counts) (record { answer = refused 11; summary = noSummary })
     (record { answer = accepted; summary = summaryOf counts })

@@ -6,10 +6,10 @@ mod text;
 ghost use mathlib.Core.Path.{_≡_};
 ghost use mathlib.Core.Bool.{true};
 ghost use Rattle.band.specs.Band.{kilohertzOf};
-ghost use Rattle.summary.specs.Summary.{told, summaryOf, summarisedOf};
+ghost use Rattle.summary.specs.Summary.{toldSummary, summaryOf, summarisedOf};
 ghost use Rattle.summary.specs.Summary.{share as Summary·share};
-ghost use Rattle.summary.specs.Report.{told as Report·told, readLines, unreadLines, meanLine, reportOf, reportedOf};
-ghost use Rattle.summary.specs.Export.{rowOf, isSummary, exportedOf};
+ghost use Rattle.summary.specs.Report.{toldText, readLines, unreadLines, meanLine, reportOf, reportedOf};
+ghost use Rattle.summary.specs.Export.{sheetRow, isSummary, exportedOf};
 ghost use Rattle.summary.specs.Building.{content, Grows};
 ghost use Rattle.log.specs.Log.{isCounts};
 use answers::Answer;
@@ -40,7 +40,7 @@ pub struct Written {
 
 // The summary record of some counts. Refused: 11 for counts that no accepted log gives, both flags clear.
 pub fn summarise(counts: Counts) -> Summarised
-    ensures { λ r. ⌜ told r ≡ summarisedOf counts ⌝ }
+    ensures { λ r. ⌜ toldSummary r ≡ summarisedOf counts ⌝ }
 {
     if log::is_counts(counts) {
         return Summarised {
@@ -83,7 +83,7 @@ fn share(part: u32, whole: u32) -> f64
 // Writes the report of some counts to the start of `out`. Refused, with `out` as before: 11 for counts that no accepted log gives, 10
 // for an output that is shorter than the text.
 pub fn report(counts: Counts, out: &mut [u8]) -> Written
-    ensures { λ r. ⌜ Report·told r (now (out .exit)) ≡ reportedOf counts (now (out .entry)) ⌝ }
+    ensures { λ r. ⌜ toldText r (now (out .exit)) ≡ reportedOf counts (now (out .entry)) ⌝ }
 {
     if log::is_counts(counts) {
         return text::deliver(report_text(counts), out);
@@ -98,7 +98,7 @@ pub fn report(counts: Counts, out: &mut [u8]) -> Written
 // share, parted by tabs and ended by a line feed. What does not exist is an empty cell. Refused, with `out` as before: 11 for counts
 // that no accepted log gives and for a record that is not bit for bit their summary, 10 for an output that is shorter than the row.
 pub fn export(counts: Counts, summary: Summary, out: &mut [u8]) -> Written
-    ensures { λ r. ⌜ Report·told r (now (out .exit)) ≡ exportedOf counts summary (now (out .entry)) ⌝ }
+    ensures { λ r. ⌜ toldText r (now (out .exit)) ≡ exportedOf counts summary (now (out .entry)) ⌝ }
 {
     if log::is_counts(counts) {
         if is_summary(summary, counts) {
@@ -169,7 +169,7 @@ fn is_summary(given: Summary, counts: Counts) -> bool
 fn row_text(counts: Counts, summary: Summary) -> Text
     requires { ⌜ isCounts counts ≡ true ⌝ }
     requires { ⌜ summary ≡ summaryOf counts ⌝ }
-    ensures { λ r. ⌜ content r ≡ rowOf counts summary ⌝ }
+    ensures { λ r. ⌜ content r ≡ sheetRow counts summary ⌝ }
 {
     let channel = text::put_field(text::empty(), counts.channel as u32, b'\t');
     let khz = text::put_field(channel, frequency(counts.channel), b'\t');

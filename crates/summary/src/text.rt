@@ -5,7 +5,7 @@ ghost use mathlib.Core.List.{[], _∷_};
 ghost use Prim.Native.Nat.{min};
 ghost use lib.ListN.{length};
 ghost use Rattle.log.specs.Decimal.{decimal};
-ghost use Rattle.summary.specs.Report.{ended, line, told, written};
+ghost use Rattle.summary.specs.Report.{ended, line, toldText, delivered};
 ghost use Rattle.summary.specs.Building.{content, Grows};
 use crate::Written;
 use answers::Answer;
@@ -78,7 +78,7 @@ pub(crate) fn put_line(text: Text, name: &[u8], number: u32) -> Text
 
 // Copies the text to the start of `out`. Refused, with `out` as before: 10 for an output that is shorter.
 pub(crate) fn deliver(text: Text, out: &mut [u8]) -> Written
-    ensures { λ r. ⌜ told r (now (out .exit)) ≡ written (content text) (now (out .entry)) ⌝ }
+    ensures { λ r. ⌜ toldText r (now (out .exit)) ≡ delivered (content text) (now (out .entry)) ⌝ }
 {
     let held = text.bytes;
     let length = least(text.length, ROOM);

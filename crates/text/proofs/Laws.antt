@@ -11,7 +11,7 @@ use lib.Dec.{leb, ltb, eqb}
 use borrow.Author.Tests.{leb-true, ltb-true}
 use Rattle.bytes.specs.Bytes.{indexOf, slice}
 use Rattle.text.specs.Fields.{sameAs, fieldOf}
-use Rattle.text.specs.Hexadecimal.{digitOf, hexadecimal, bytesOf}
+use Rattle.text.specs.Hexadecimal.{digitOf, hexadecimal, decoded}
 use Rattle.text.specs.declared.hexadecimal.Bytes.{Bytes}
 
 -- what is left at an index that is within: an element, and what is left behind it
@@ -32,7 +32,7 @@ no-field zero = refl
 no-field (suc index) = no-field index
 
 -- one digit is no byte
-pub no-byte : (s : List ℕ) → length s ≡ 1 → bytesOf s ≡ []
+pub no-byte : (s : List ℕ) → length s ≡ 1 → decoded s ≡ []
 no-byte [] h = refl
 no-byte (a ∷ []) h = refl
 no-byte (a ∷ b ∷ s) h = absurd (omega arith)
@@ -93,8 +93,8 @@ field-none k s n e h g =
 -- one byte more is decoded
 pub decoded : (s output : List ℕ) (i v : ℕ) → i < length output → 2 * i + 1 < length s
     → v ≡ digitOf (getD s (2 * i) 0) * 16 + digitOf (getD s (2 * i + 1) 0)
-    → take i output ++ bytesOf (drop (2 * i) s) ≡ bytesOf s
-    → take (i + 1) (set output i v) ++ bytesOf (drop (2 * (i + 1)) s) ≡ bytesOf s
+    → take i output ++ decoded (drop (2 * i) s) ≡ decoded s
+    → take (i + 1) (set output i v) ++ decoded (drop (2 * (i + 1)) s) ≡ decoded s
 decoded s output i v h k e sofar =
     let here : 2 * i < length s = omega arith in
     let two : drop (2 * i) s ≡ getD s (2 * i) 0 ∷ getD s (2 * i + 1) 0 ∷ drop (2 * i + 1 + 1) s = rw (next s (2 * i) here, next s (2 * i + 1) k) in
@@ -110,8 +110,8 @@ kept output was i v e =
     drop-set-lt (i + 1) output i v less ∙ sym (drop-drop 1 i output) ∙ ap (drop 1) e ∙ drop-drop 1 i was
 
 -- all bytes are decoded
-pub decoded-all : (s output was : List ℕ) (i : ℕ) → length s ≤ 2 * i → take i output ++ bytesOf (drop (2 * i) s) ≡ bytesOf s
-    → drop i output ≡ drop i was → output ≡ bytesOf s ++ drop i was
+pub decoded-all : (s output was : List ℕ) (i : ℕ) → length s ≤ 2 * i → take i output ++ decoded (drop (2 * i) s) ≡ decoded s
+    → drop i output ≡ drop i was → output ≡ decoded s ++ drop i was
 decoded-all s output was i h sofar e =
     let sofar' = rw (drop-of-length-le s h, append-nil) at sofar in
     sym (take-append-drop i output) ∙ rw (sofar', e)

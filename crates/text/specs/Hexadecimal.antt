@@ -20,14 +20,14 @@ hexadecimal [] = true
 hexadecimal (b ∷ digits) = ltb (digitOf b) 16 && hexadecimal digits
 
 -- the bytes, two digits each
-abbrev pub bytesOf : List ℕ → List ℕ
-bytesOf [] = []
-bytesOf (a ∷ []) = []
-bytesOf (a ∷ b ∷ digits) = (digitOf a * 16 + digitOf b) ∷ bytesOf digits
+abbrev pub decoded : List ℕ → List ℕ
+decoded [] = []
+decoded (a ∷ []) = []
+decoded (a ∷ b ∷ digits) = (digitOf a * 16 + digitOf b) ∷ decoded digits
 
 -- a field that is `.`, or an even number of digits, not none, whose bytes there is room for
-abbrev pub readOf : List ℕ → ℕ → Bytes
-readOf digits room =
+abbrev pub readBytesOf : List ℕ → ℕ → Bytes
+readBytesOf digits room =
     cond (eqb (length digits) 1) (cond (eqb (getD digits 0 0) 46) (Are 0) Unreadable)
     (cond (eqb (length digits) 0) Unreadable
     (cond (not (eqb (length digits % 2) 0)) Unreadable
@@ -35,14 +35,14 @@ readOf digits room =
     (cond (hexadecimal digits) (Are (length digits / 2)) Unreadable))))
 
 -- the output: the bytes that were read, and then as before
-abbrev pub leftOf : Bytes → List ℕ → List ℕ → List ℕ
-leftOf (Are count) digits output = bytesOf digits ++ drop count output
-leftOf Unreadable digits output = output
+abbrev pub roomAfter : Bytes → List ℕ → List ℕ → List ℕ
+roomAfter (Are count) digits output = decoded digits ++ drop count output
+roomAfter Unreadable digits output = output
 
 abbrev pub countOf : Bytes → ℕ
 countOf (Are count) = count
 countOf Unreadable = 0
 
 -- the digit of a number below 16
-abbrev pub spelled : ℕ → ℕ
-spelled number = cond (ltb number 10) (48 + number) (97 + number - 10)
+abbrev pub hexDigit : ℕ → ℕ
+hexDigit number = cond (ltb number 10) (48 + number) (97 + number - 10)

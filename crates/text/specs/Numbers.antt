@@ -7,17 +7,17 @@ use lib.Dec.{eqb, leb}
 use Rattle.text.specs.declared.numbers.Number.{Number}
 use Rattle.text.specs.declared.numbers.Number.the-variants.{Is, Unreadable}
 
-abbrev pub decimal : ℕ → Bool
-decimal b = leb 48 b && leb b 57
+abbrev pub isDecimal : ℕ → Bool
+isDecimal b = leb 48 b && leb b 57
 
 -- digits read on from a value; a value over the most is no number
 abbrev pub digitsFrom : ℕ → ℕ → List ℕ → Number
 digitsFrom most value [] = Is value
 digitsFrom most value (b ∷ digits) =
-    cond (decimal b)
+    cond (isDecimal b)
     (cond (leb (value * 10 + (b - 48)) most) (digitsFrom most (value * 10 + (b - 48)) digits) Unreadable)
     Unreadable
 
 -- one or more digits
-abbrev pub numberOf : ℕ → List ℕ → Number
-numberOf most digits = cond (eqb (length digits) 0) Unreadable (digitsFrom most 0 digits)
+abbrev pub readNumberOf : ℕ → List ℕ → Number
+readNumberOf most digits = cond (eqb (length digits) 0) Unreadable (digitsFrom most 0 digits)

@@ -4,7 +4,7 @@ ghost use mathlib.Core.Bool.{true};
 ghost use mathlib.Core.List.{_++_};
 ghost use Prim.Native.Nat.{_+_, _*_, _/_, _%_, _≤_, _<_};
 ghost use lib.ListN.{length, drop};
-ghost use Rattle.text.specs.Hexadecimal.{digitOf, hexadecimal, bytesOf, spelled, readOf, leftOf, countOf};
+ghost use Rattle.text.specs.Hexadecimal.{digitOf, hexadecimal, decoded, hexDigit, readBytesOf, roomAfter, countOf};
 
 pub enum Bytes {
     Are(usize),
@@ -45,7 +45,7 @@ fn decode(digits: &[u8], output: &mut [u8])
     requires { ⌜ hexadecimal (now digits) ≡ true ⌝ }
     requires { ⌜ length (now digits) % 2 ≡ 0 ⌝ }
     requires { ⌜ length (now digits) / 2 ≤ length (now output) ⌝ }
-    ensures { λ _. ⌜ now (output .exit) ≡ bytesOf (now (digits .entry)) ++ drop (length (now (digits .entry)) / 2) (now (output .entry)) ⌝ }
+    ensures { λ _. ⌜ now (output .exit) ≡ decoded (now (digits .entry)) ++ drop (length (now (digits .entry)) / 2) (now (output .entry)) ⌝ }
 {
     let count = digits.len() / 2;
     let mut i = 0;
@@ -58,8 +58,8 @@ fn decode(digits: &[u8], output: &mut [u8])
 // Reads the bytes of a field into the start of the output; `.` is no bytes. Unreadable: no or an odd number of digits,
 // another byte, or more bytes than the output has; then the output is as before.
 pub fn read_bytes(digits: &[u8], output: &mut [u8]) -> Bytes
-    ensures { λ r. ⌜ r ≡ readOf (now (digits .entry)) (length (now (output .entry))) ⌝ }
-    ensures { λ r. ⌜ now (output .exit) ≡ leftOf r (now (digits .entry)) (now (output .entry)) ⌝ }
+    ensures { λ r. ⌜ r ≡ readBytesOf (now (digits .entry)) (length (now (output .entry))) ⌝ }
+    ensures { λ r. ⌜ now (output .exit) ≡ roomAfter r (now (digits .entry)) (now (output .entry)) ⌝ }
     ensures { λ r. ⌜ countOf r ≤ length (now (output .exit)) ⌝ }
 {
     if digits.len() == 1 {
@@ -83,7 +83,7 @@ pub fn read_bytes(digits: &[u8], output: &mut [u8]) -> Bytes
 // The digit of a number below 16, in lower case.
 fn spell(number: u8) -> u8
     requires { ⌜ number < 16 ⌝ }
-    ensures { λ r. ⌜ r ≡ spelled number ⌝ }
+    ensures { λ r. ⌜ r ≡ hexDigit number ⌝ }
 {
     if number < 10 {
         b'0' + number
@@ -94,14 +94,14 @@ fn spell(number: u8) -> u8
 
 // The first of the two digits of a byte.
 pub fn first_digit(byte: u8) -> u8
-    ensures { λ r. ⌜ r ≡ spelled (byte / 16) ⌝ }
+    ensures { λ r. ⌜ r ≡ hexDigit (byte / 16) ⌝ }
 {
     spell(byte / 16)
 }
 
 // The second of the two digits of a byte.
 pub fn second_digit(byte: u8) -> u8
-    ensures { λ r. ⌜ r ≡ spelled (byte % 16) ⌝ }
+    ensures { λ r. ⌜ r ≡ hexDigit (byte % 16) ⌝ }
 {
     spell(byte % 16)
 }

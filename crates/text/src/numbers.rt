@@ -1,6 +1,6 @@
 // Numbers in a field.
 ghost use mathlib.Core.Path.{_≡_};
-ghost use Rattle.text.specs.Numbers.{numberOf};
+ghost use Rattle.text.specs.Numbers.{readNumberOf};
 
 pub enum Number {
     Is(u32),
@@ -9,7 +9,7 @@ pub enum Number {
 
 // The number that one or more decimal digits spell. Unreadable: no digits, another byte, or a number over the most.
 pub fn read_number(digits: &[u8], most: u32) -> Number
-    ensures { λ r. ⌜ r ≡ numberOf most (now (digits .entry)) ⌝ }
+    ensures { λ r. ⌜ r ≡ readNumberOf most (now (digits .entry)) ⌝ }
 {
     if digits.len() == 0 {
         return Number::Unreadable;

@@ -10,15 +10,15 @@ use lib.ListN.{length, getD, take, drop, replicate, length-drop, take-append-dro
 use lib.Seq.{take-add, length-take-le, getD-take}
 use Rattle.answers.proofs.Rules.{unless-passed}
 use Rattle.gf2.specs.Poly.{bit}
-use Rattle.header.specs.Fields.{Bytes, Fit, field, fields, header, bytesOf, numberOf}
+use Rattle.header.specs.Fields.{Bytes, Fit, field, fields, header, bytesOf, headerFrom}
 use Rattle.header.proofs.Fields.{packed-lt, fields-fit, header-again, number-bytes, total-bytes}
 use Rattle.channel.specs.Answers.{Outcome, message, refused}
-use Rattle.channel.specs.Layer4.{only, layer4, sizeOf, opened, extOf, openedAt, blocksFor, zeros, rightForm, tested, messageOf}
+use Rattle.channel.specs.Layer4.{whereExt, layer4, sizeOf, opened, extOf, openedAt, blocksFor, isPadding, rightForm, tested, messageOf}
 use Rattle.channel.specs.declared.Header.{Header}
 use Rattle.channel.specs.declared.layer4.Opened.{Opened}
 use Rattle.channel.proofs.Headers.{fields-small}
 use Rattle.writer.specs.Reading.{dataOf}
-use Rattle.writer.specs.Message.{valuesOf, headerBytes, blocksOf, messageBytes}
+use Rattle.writer.specs.Message.{valuesOf, headerBytes, blocksFilled, messageBytes}
 use Rattle.writer.proofs.Laws.{size-room}
 use Rattle.writer.proofs.HeaderBack.{Right, ext-place}
 
@@ -34,7 +34,7 @@ record Passed (o : Opened) (bytes : List ℕ) (h : Header) : Type 0 where
   rfa : o .rfa ≡ 0
   form : rightForm (o .header .ext) (o .header .number) ≡ true
   count : blocksFor (o .header .size + o .header .length) * 20 ≡ length bytes
-  padding : zeros (drop (o .header .size + o .header .length) bytes) ≡ true
+  padding : isPadding (drop (o .header .size + o .header .length) bytes) ≡ true
   is : o .header ≡ h
 
 all-passed : (o : Opened) (bytes : List ℕ) (h : Header) → tested o bytes ≡ message h → Passed o bytes h
@@ -48,7 +48,7 @@ all-passed o bytes h e =
     let d = unless-passed Is (rightForm (o .header .ext) (o .header .number)) _ _ (no-message h 6) (c .1) in
     let f = unless-passed Is (leb end 260) _ _ (no-message h 14) (d .1) in
     let g = unless-passed Is (eqb (blocksFor end * 20) (length bytes)) _ _ (no-message h 7) (f .1) in
-    let j = unless-passed Is (zeros (drop end bytes)) _ _ (no-message h 7) (g .1) in
+    let j = unless-passed Is (isPadding (drop end bytes)) _ _ (no-message h 7) (g .1) in
     let m : message (o .header) ≡ message h = j .1 in
     record {
       caf = a .0;
@@ -73,7 +73,7 @@ none-of (suc zero) h e = let z : _≡_ {A = ℕ} 0 1 = cc in absurd (omega arith
 none-of (suc (suc n)) h e = absurd (omega arith)
 
 -- the form of an accepted number
-form-again : (ext : Bool) (upper add : ℕ) → upper < 2 ^ only ext 5 → add < 512 → rightForm ext (512 * upper + add) ≡ true
+form-again : (ext : Bool) (upper add : ℕ) → upper < 2 ^ whereExt ext 5 → add < 512 → rightForm ext (512 * upper + add) ≡ true
     → (512 * upper + add < 16384) × (ext ≡ leb 512 (512 * upper + add))
 form-again true upper add u a f = (omega (arith, u), sym f)
 form-again false upper add u a f = (omega (arith, u), sym (lt-leb 512 (512 * upper + add) (omega (arith, u))))
@@ -132,19 +132,19 @@ bytes-drop zero xs f = f
 bytes-drop (suc n) [] f = tt
 bytes-drop (suc n) (x ∷ xs) f = bytes-drop n xs (f .1)
 
-zeros-all : (s : List ℕ) → zeros s ≡ true → s ≡ replicate (length s) 0
+zeros-all : (s : List ℕ) → isPadding s ≡ true → s ≡ replicate (length s) 0
 zeros-all [] e = refl
 zeros-all (b ∷ s) e =
-    let t = and-eq-true-iff (eqb b 0) (zeros s) .0 e in
+    let t = and-eq-true-iff (eqb b 0) (isPadding s) .0 e in
     λ i. eqb-true b 0 (t .0) i ∷ zeros-all s (t .1) i
 
 pub record Again (bytes : List ℕ) (m : Header) : Type 0 where
   pub right : Right m
   pub row : messageBytes m (dataOf m bytes) ≡ bytes
-  pub blocks : blocksOf m * 20 ≡ length bytes
+  pub blocks : blocksFilled m * 20 ≡ length bytes
 
 row-again : (m : Header) (s : List ℕ) → m .size ≡ sizeOf (m .ext) → headerBytes m ≡ take (m .size) s → blocksFor (m .size + m .length) * 20 ≡ length s
-    → zeros (drop (m .size + m .length) s) ≡ true → messageBytes m (dataOf m s) ≡ s
+    → isPadding (drop (m .size + m .length) s) ≡ true → messageBytes m (dataOf m s) ≡ s
 unfolding messageBytes
 row-again m s size h count z =
     let n = m .size + m .length in
@@ -160,7 +160,7 @@ module _ (bytes : List ℕ) (fit : Bytes bytes) (long : 5 ≤ length bytes) wher
   size = sizeOf (extOf bytes)
 
   whole : ℕ
-  whole = numberOf (take size bytes)
+  whole = headerFrom (take size bytes)
 
   taken-length : length (take size bytes) ≡ size
   unfolding size

@@ -18,20 +18,20 @@ use Rattle.channel.specs.declared.Channel.{Channel}
 use Rattle.channel.specs.declared.Header.{Header}
 use Rattle.channel.specs.declared.Stepped.{Stepped}
 use Rattle.channel.proofs.Laws.{rule-sc}
-use Rattle.group.specs.Answers.{Outcome, taken, whole, Left, leaves, left}
-use Rattle.group.specs.State.{groupOf, idle, keepsRule, within, joinedOn, joinOf}
-use Rattle.group.specs.Leading.{Message, Joined, Joins, joinAnswers, groupLeft, bufferLeft}
+use Rattle.group.specs.Answers.{Outcome, taken, whole, GroupAfter, groupAfter, toldJoin}
+use Rattle.group.specs.State.{groupWith, idle, keepsRule, messageFits, joinedOn, joinOf}
+use Rattle.group.specs.Leading.{Message, JoinResult, Joins, joinAnswers, groupLeft, bufferLeft}
 use Rattle.group.specs.declared.Group.{Group}
 use Rattle.group.specs.declared.Phase.the-variants.{Gathering}
 use Rattle.group.proofs.Joining as joining
 use Rattle.group.proofs.Rule.{gathering-rule}
 use Rattle.group.proofs.Leading.{front}
 use Rattle.writer.specs.Reading.{pieces, Steps, Listens, messageIn, handOn, messagesIn, heardAll, GroupBack}
-use Rattle.writer.specs.Message.{headerFor, messageBlocks, Writes}
+use Rattle.writer.specs.Message.{headerFor, messageBlocks, LeavesBlocks}
 use Rattle.writer.specs.Group.{groupFields, messagesOf, blocksOf, groupBlocks, writeGroupOf}
 use Rattle.writer.specs.declared.Series.{Series}
 use Rattle.writer.specs.declared.Wrote.{Wrote}
-use Rattle.writer.proofs.Runs.{answersOf, channelAfter, messagesRead, steps-run, after-append, answers-append, run-elim}
+use Rattle.writer.proofs.Runs.{answersOf, channelAtEnd, messagesRead, steps-run, after-append, answers-append, run-elim}
 use Rattle.writer.proofs.ReadBack.{blocks-back}
 use Rattle.writer.proofs.Laws.{within-widths, within-true}
 use Rattle.writer.proofs.Writing.{message-count}
@@ -44,17 +44,17 @@ handed-append channel.taken c xs ys = refl
 handed-append (channel.message h) c xs ys = refl
 handed-append (channel.refused n) c xs ys = refl
 
-read-append : (c : Channel) (xs ys : List (List ℕ)) → messagesRead c (xs ++ ys) ≡ messagesRead c xs ++ messagesRead (channelAfter c xs) ys
+read-append : (c : Channel) (xs ys : List (List ℕ)) → messagesRead c (xs ++ ys) ≡ messagesRead c xs ++ messagesRead (channelAtEnd c xs) ys
 read-append c [] ys = refl
 read-append c (x ∷ xs) ys =
     let l = stepOf c x in
-    ap (handOn (l .answer) (l .channel)) (read-append (l .channel) xs ys) ∙ handed-append (l .answer) (l .channel) (messagesRead (l .channel) xs) (messagesRead (channelAfter (l .channel) xs) ys)
+    ap (handOn (l .answer) (l .channel)) (read-append (l .channel) xs ys) ∙ handed-append (l .answer) (l .channel) (messagesRead (l .channel) xs) (messagesRead (channelAtEnd (l .channel) xs) ys)
 
 -- "taken" .. "message" is one message
 one-read : (n : ℕ) (h : Header) (c : Channel) (blocks : List (List ℕ)) → answersOf c blocks ≡ replicate n channel.taken ++ (channel.message h ∷ [])
-    → messagesRead c blocks ≡ messageIn h (channelAfter c blocks) ∷ []
+    → messagesRead c blocks ≡ messageIn h (channelAtEnd c blocks) ∷ []
 one-read n h =
-    run-elim h (λ (k : ℕ) (c : Channel) (blocks : List (List ℕ)). messagesRead c blocks ≡ messageIn h (channelAfter c blocks) ∷ [])
+    run-elim h (λ (k : ℕ) (c : Channel) (blocks : List (List ℕ)). messagesRead c blocks ≡ messageIn h (channelAtEnd c blocks) ∷ [])
     (λ c b e. ap (λ (o : channel.Outcome). handOn o (stepOf c b .channel) []) e)
     (λ k c b blocks e rest. ap (λ (o : channel.Outcome). handOn o (stepOf c b .channel) (messagesRead (stepOf c b .channel) blocks)) e ∙ rest)
     n
@@ -64,8 +64,8 @@ module _ (number ri : ℕ) (di : Bool) (small-number : number ≤ 16383) (small-
   series-read : (k : ℕ) (first : Bool) (ci : ℕ) (s : List ℕ) (c : Channel) → ci ≤ 3 → Listens c
       → (answersOf c (blocksOf di (c .expected) (messagesOf k first number ri ci s)) ≡ heardAll (messagesOf k first number ri ci s))
       × (messagesRead c (blocksOf di (c .expected) (messagesOf k first number ri ci s)) ≡ messagesOf k first number ri ci s)
-      × Listens (channelAfter c (blocksOf di (c .expected) (messagesOf k first number ri ci s)))
-      × (channelAfter c (blocksOf di (c .expected) (messagesOf k first number ri ci s)) .expected ≡ (c .expected + length (blocksOf di (c .expected) (messagesOf k first number ri ci s))) % 16)
+      × Listens (channelAtEnd c (blocksOf di (c .expected) (messagesOf k first number ri ci s)))
+      × (channelAtEnd c (blocksOf di (c .expected) (messagesOf k first number ri ci s)) .expected ≡ (c .expected + length (blocksOf di (c .expected) (messagesOf k first number ri ci s))) % 16)
   series-read zero first ci s c hc l = (refl, refl, l, omega (arith, rule-sc c (l .rule)))
   series-read (suc k) first ci s c hc l =
       let m = groupFields number ri ci first (eqb k 0) in
@@ -75,7 +75,7 @@ module _ (number ri : ℕ) (di : Bool) (small-number : number ≤ 16383) (small-
       let B = messageBlocks m di sc part in
       let small = rule-sc c (l .rule) in
       let R = blocks-back m di part c l (within-true m sc (length part) (omega arith) (omega arith) (omega arith) small few) in
-      let c₁ = channelAfter c B in
+      let c₁ = channelAtEnd c B in
       let n = message-count m di sc part in
       let e : (sc + length B) % 16 ≡ c₁ .expected = ap (λ (i : ℕ). (sc + i) % 16) n ∙ sym (R .expected) in
       let messages = messagesOf k false number ri ((ci + 1) % 4) (drop 255 s) in
@@ -84,7 +84,7 @@ module _ (number ri : ℕ) (di : Bool) (small-number : number ≤ 16383) (small-
       let ih = series-read k false ((ci + 1) % 4) (drop 255 s) c₁ (omega arith) (R .listens) in
       let one : messagesRead c B ≡ record { fields = m; bytes = part } ∷ [] =
       one-read (blocksFor (sizeOf (leb 512 number) + length part) - 1) (headerFor m (length part)) c B (R .answers) ∙ ap (λ (d : List ℕ). record { fields = m; bytes = d } ∷ []) (R .stands) in
-      let after : channelAfter c (B ++ G) ≡ channelAfter c₁ (blocksOf di (c₁ .expected) messages) = after-append c B G ∙ ap (channelAfter c₁) same in
+      let after : channelAtEnd c (B ++ G) ≡ channelAtEnd c₁ (blocksOf di (c₁ .expected) messages) = after-append c B G ∙ ap (channelAtEnd c₁) same in
       let count : length (B ++ G) ≡ length B + length (blocksOf di (c₁ .expected) messages) = length-append B G ∙ ap (λ (g : List (List ℕ)). length B + length g) same in (
         answers-append c B G ∙ ap₂ (λ (xs ys : List channel.Outcome). xs ++ ys) (R .answers) (ap (answersOf c₁) same ∙ ih .0),
         read-append c B G ∙ ap₂ (λ (xs ys : List Message). xs ++ ys) one (ap (messagesRead c₁) same ∙ ih .1),
@@ -96,27 +96,27 @@ module _ (number ri : ℕ) (di : Bool) (small-number : number ≤ 16383) (small-
 
 -- a message that is joined on: the state and the buffer that it leaves
 module _ (number ri : ℕ) (small-number : number ≤ 16383) (small-ri : ri ≤ 3) where
-  allowed : (ci d : ℕ) (first last : Bool) → ci ≤ 3 → d ≤ 255 → within (groupFields number ri ci first last) d ≡ true
-  unfolding within
+  allowed : (ci d : ℕ) (first last : Bool) → ci ≤ 3 → d ≤ 255 → messageFits (groupFields number ri ci first last) d ≡ true
+  unfolding messageFits
   allowed ci d first last hc hd = rw (le-leb _ _ small-number, le-leb _ _ hd, le-leb _ _ small-ri, le-leb _ _ hc)
 
   -- not First: gathering, CI one more, less than fifteen messages
-  follows : (held messages ci : ℕ) (last : Bool) (s buffer : List ℕ) → keepsRule (groupOf number Gathering held messages ci) ≡ true → ci ≤ 3 → length s ≤ 255 → messages < 15 → 3825 ≤ length buffer
-      → joinOf (groupOf number Gathering held messages ci) (groupFields number ri ((ci + 1) % 4) false last) s buffer
-      ≡ joinedOn (groupOf number Gathering held messages ci) (groupFields number ri ((ci + 1) % 4) false last) s buffer
+  follows : (held messages ci : ℕ) (last : Bool) (s buffer : List ℕ) → keepsRule (groupWith number Gathering held messages ci) ≡ true → ci ≤ 3 → length s ≤ 255 → messages < 15 → 3825 ≤ length buffer
+      → joinOf (groupWith number Gathering held messages ci) (groupFields number ri ((ci + 1) % 4) false last) s buffer
+      ≡ joinedOn (groupWith number Gathering held messages ci) (groupFields number ri ((ci + 1) % 4) false last) s buffer
   follows held messages ci last s buffer rule hc hd hm room =
-      let g = groupOf number Gathering held messages ci in
+      let g = groupWith number Gathering held messages ci in
       let m = groupFields number ri ((ci + 1) % 4) false last in
-      let rules : (keepsRule g && within m (length s)) ≡ true = rw (rule, allowed ((ci + 1) % 4) (length s) false last (omega arith) hd) in
+      let rules : (keepsRule g && messageFits m (length s)) ≡ true = rw (rule, allowed ((ci + 1) % 4) (length s) false last (omega arith) hd) in
       let ours : (eqb number number && true) ≡ true = rw (eq-eqb number number refl) in
       sym (joining.joins g m s buffer room rules ours g refl (eq-eqb ((ci + 1) % 4) ((ci + 1) % 4) refl) hm)
 
-  record SeriesJoins (k : ℕ) (s : List ℕ) (g base : Group) (buffer : List ℕ) (joins : List Joined) : Type 0 where
+  record SeriesJoins (k : ℕ) (s : List ℕ) (g base : Group) (buffer : List ℕ) (joins : List JoinResult) : Type 0 where
     answers : joinAnswers joins ≡ replicate k taken ++ (whole (base .held + length s) ∷ [])
     state : groupLeft g joins ≡ idle number
     bytes : take (base .held + length s) (bufferLeft buffer joins) ≡ take (base .held) buffer ++ s
 
-  series-joins : (k : ℕ) (first : Bool) (ci : ℕ) (s : List ℕ) (g base : Group) (buffer : List ℕ) (joins : List Joined) → ci ≤ 3 → length s ≤ 255 * suc k → 3825 ≤ length buffer
+  series-joins : (k : ℕ) (first : Bool) (ci : ℕ) (s : List ℕ) (g base : Group) (buffer : List ℕ) (joins : List JoinResult) → ci ≤ 3 → length s ≤ 255 * suc k → 3825 ≤ length buffer
       → base .number ≡ number → base .held ≤ 255 * base .messages → base .messages + suc k ≤ 15
       → joinOf g (groupFields number ri ci first (eqb k 0)) (take 255 s) buffer ≡ joinedOn base (groupFields number ri ci first (eqb k 0)) (take 255 s) buffer
       → Joins g buffer (messagesOf (suc k) first number ri ci s) joins → SeriesJoins k s g base buffer joins
@@ -125,22 +125,22 @@ module _ (number ri : ℕ) (small-number : number ≤ 16383) (small-ri : ri ≤ 
   series-joins zero first ci s g base buffer (a ∷ b ∷ joins) hc hs room is hh hm e did = absurd (did .1)
   series-joins zero first ci s g base buffer (a ∷ []) hc hs room is hh hm e did =
       let all : take 255 s ≡ s = take-all 255 s (omega arith) in
-      let l : left (a .stepped) (a .buffer) ≡ leaves (whole (base .held + length s)) (idle number) (paste buffer (base .held) s (length s)) =
-      did .0 ∙ e ∙ (λ i. leaves (whole (base .held + length (all i))) (idle (is i)) (paste buffer (base .held) (all i) (length (all i)))) in
+      let l : toldJoin (a .stepped) (a .buffer) ≡ groupAfter (whole (base .held + length s)) (idle number) (paste buffer (base .held) s (length s)) =
+      did .0 ∙ e ∙ (λ i. groupAfter (whole (base .held + length (all i))) (idle (is i)) (paste buffer (base .held) (all i) (length (all i)))) in
       record {
-        answers = ap (λ (x : Left). x .answer ∷ []) l;
-        state = ap (λ (x : Left). x .group) l;
-        bytes = ap (λ (x : Left). take (base .held + length s) (x .buffer)) l ∙ front buffer s (base .held) (omega arith);
+        answers = ap (λ (x : GroupAfter). x .answer ∷ []) l;
+        state = ap (λ (x : GroupAfter). x .group) l;
+        bytes = ap (λ (x : GroupAfter). take (base .held + length s) (x .buffer)) l ∙ front buffer s (base .held) (omega arith);
       }
   series-joins (suc j) first ci s g base buffer (a ∷ joins) hc hs room is hh hm e did =
       let part = take 255 s in
       let rest = drop 255 s in
       let few : length part ≤ 255 = omega (arith, length-take 255 s) in
       let held = base .held + length part in
-      let next = groupOf number Gathering held (base .messages + 1) ci in
+      let next = groupWith number Gathering held (base .messages + 1) ci in
       let laid = paste buffer (base .held) part (length part) in
-      let l : left (a .stepped) (a .buffer) ≡ leaves taken next laid =
-      did .0 ∙ e ∙ (rw (eqb·suc-zero j) (λ i. leaves taken (groupOf (is i) Gathering held (base .messages + 1) ci) laid)) in
+      let l : toldJoin (a .stepped) (a .buffer) ≡ groupAfter taken next laid =
+      did .0 ∙ e ∙ (rw (eqb·suc-zero j) (λ i. groupAfter taken (groupWith (is i) Gathering held (base .messages + 1) ci) laid)) in
       let long : length laid ≡ length buffer = length-paste buffer (base .held) part (length part) (omega arith) (omega arith) in
       let rule = gathering-rule number (base .held) (base .messages) (length part) ci small-number hh (omega arith) few hc in
       let few-rest : length (take 255 rest) ≤ 255 = omega (arith, length-take 255 rest) in
@@ -148,12 +148,12 @@ module _ (number ri : ℕ) (small-number : number ≤ 16383) (small-ri : ri ≤ 
       let messages = messagesOf (suc j) false number ri ((ci + 1) % 4) rest in
       let ih = series-joins j false ((ci + 1) % 4) rest next next laid joins (omega arith) less (omega arith) refl (omega arith) (omega arith)
       (follows held (base .messages + 1) ci (eqb j 0) (take 255 rest) laid rule hc few-rest (omega arith) (omega arith))
-      (subst (λ (x : Left). Joins (x .group) (x .buffer) messages joins) l (did .1)) in
+      (subst (λ (x : GroupAfter). Joins (x .group) (x .buffer) messages joins) l (did .1)) in
       let cut : part ++ rest ≡ s = take-append-drop 255 s in
       let total : held + length rest ≡ base .held + length s = omega (arith, ap length cut, length-append part rest) in
       record {
-        answers = ap (λ (x : Left). x .answer ∷ joinAnswers joins) l ∙ ap (λ (a : List Outcome). taken ∷ a) (ih .answers ∙ ap (λ (n : ℕ). replicate j taken ++ (whole n ∷ [])) total);
-        state = ap (λ (x : Left). groupLeft (x .group) joins) l ∙ ih .state;
+        answers = ap (λ (x : GroupAfter). x .answer ∷ joinAnswers joins) l ∙ ap (λ (a : List Outcome). taken ∷ a) (ih .answers ∙ ap (λ (n : ℕ). replicate j taken ++ (whole n ∷ [])) total);
+        state = ap (λ (x : GroupAfter). groupLeft (x .group) joins) l ∙ ih .state;
         bytes =
             (λ i. take (sym total i) (bufferLeft (l i .buffer) joins))
             ∙ ih .bytes
@@ -165,8 +165,8 @@ module _ (number ri : ℕ) (small-number : number ≤ 16383) (small-ri : ri ≤ 
 -- ---- both
 
 -- A GROUP WRITTEN READS BACK
-pub group-back : (x : Series) (s before after : List ℕ) (w : Wrote) (c : Channel) (steps : List Stepped) (g : Group) (buffer : List ℕ) (joins : List Joined)
-    → Writes (writeGroupOf x s (length before)) w before after → paper (w .answer) ≡ accepted
+pub group-back : (x : Series) (s before after : List ℕ) (w : Wrote) (c : Channel) (steps : List Stepped) (g : Group) (buffer : List ℕ) (joins : List JoinResult)
+    → LeavesBlocks (writeGroupOf x s (length before)) w before after → paper (w .answer) ≡ accepted
     → Listens c → c .expected ≡ x .sc → Steps c (pieces (w .blocks) after) steps
     → keepsRule g ≡ true → g .number ≡ x .number → 3825 ≤ length buffer → Joins g buffer (messagesIn steps) joins
     → GroupBack x s w c steps g buffer joins
@@ -185,7 +185,7 @@ group-back x s before after w c steps g buffer joins wrote took l sc did rule sa
     let read : messagesIn steps ≡ messages = S .2 ∙ R .1 in
     let m = groupFields (x .number) (x .ri) (x .ci) true (eqb k 0) in
     let few : length (take 255 s) ≤ 255 = omega (arith, length-take 255 s) in
-    let rules : (keepsRule g && within m (length (take 255 s))) ≡ true =
+    let rules : (keepsRule g && messageFits m (length (take 255 s))) ≡ true =
     rw (rule, allowed (x .number) (x .ri) (omega arith) (omega arith) (x .ci) (length (take 255 s)) true (eqb k 0) (omega arith) few) in
     let ours : (eqb (x .number) (g .number) && true) ≡ true = rw (eq-eqb _ _ (sym same)) in
     let first : joinOf g m (take 255 s) buffer ≡ joinedOn (idle (x .number)) m (take 255 s) buffer =

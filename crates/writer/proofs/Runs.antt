@@ -4,7 +4,7 @@ use mathlib.Core.Path.{_≡_, refl, sym, ap, _∙_, subst}
 use mathlib.Core.List.{List, [], _∷_, _++_}
 use native.Mathlib.Omega.{arith}
 use lib.ListN.{replicate}
-use Rattle.channel.specs.Answers.{Outcome, taken, message, Left, outcome}
+use Rattle.channel.specs.Answers.{Outcome, taken, message, ChannelAfter, outcome}
 use Rattle.channel.specs.State.{stepOf}
 use Rattle.channel.specs.declared.Channel.{Channel}
 use Rattle.channel.specs.declared.Header.{Header}
@@ -17,32 +17,32 @@ abbrev pub answersOf : Channel → List (List ℕ) → List Outcome
 answersOf c [] = []
 answersOf c (b ∷ blocks) = stepOf c b .answer ∷ answersOf (stepOf c b .channel) blocks
 
-abbrev pub channelAfter : Channel → List (List ℕ) → Channel
-channelAfter c [] = c
-channelAfter c (b ∷ blocks) = channelAfter (stepOf c b .channel) blocks
+abbrev pub channelAtEnd : Channel → List (List ℕ) → Channel
+channelAtEnd c [] = c
+channelAtEnd c (b ∷ blocks) = channelAtEnd (stepOf c b .channel) blocks
 
 abbrev pub messagesRead : Channel → List (List ℕ) → List Message
 messagesRead c [] = []
 messagesRead c (b ∷ blocks) = handOn (stepOf c b .answer) (stepOf c b .channel) (messagesRead (stepOf c b .channel) blocks)
 
 pub steps-run : (c : Channel) (blocks : List (List ℕ)) (steps : List Stepped) → Steps c blocks steps
-    → (answersIn steps ≡ answersOf c blocks) × (channelLeft c steps ≡ channelAfter c blocks) × (messagesIn steps ≡ messagesRead c blocks)
+    → (answersIn steps ≡ answersOf c blocks) × (channelLeft c steps ≡ channelAtEnd c blocks) × (messagesIn steps ≡ messagesRead c blocks)
 steps-run c [] [] s = (refl, refl, refl)
 steps-run c [] (r ∷ steps) s = absurd s
 steps-run c (b ∷ blocks) [] s = absurd s
 steps-run c (b ∷ blocks) (r ∷ steps) s =
     let ih = steps-run (r .channel) blocks steps (s .1) in (
-      ap (λ (l : List Outcome). outcome (r .answer) ∷ l) (ih .0) ∙ ap (λ (l : Left). l .answer ∷ answersOf (l .channel) blocks) (s .0),
-      ih .1 ∙ ap (λ (l : Left). channelAfter (l .channel) blocks) (s .0),
-      ap (handOn (outcome (r .answer)) (r .channel)) (ih .2) ∙ ap (λ (l : Left). handOn (l .answer) (l .channel) (messagesRead (l .channel) blocks)) (s .0),
+      ap (λ (l : List Outcome). outcome (r .answer) ∷ l) (ih .0) ∙ ap (λ (l : ChannelAfter). l .answer ∷ answersOf (l .channel) blocks) (s .0),
+      ih .1 ∙ ap (λ (l : ChannelAfter). channelAtEnd (l .channel) blocks) (s .0),
+      ap (handOn (outcome (r .answer)) (r .channel)) (ih .2) ∙ ap (λ (l : ChannelAfter). handOn (l .answer) (l .channel) (messagesRead (l .channel) blocks)) (s .0),
     )
 
 -- one run after the other
-pub after-append : (c : Channel) (xs ys : List (List ℕ)) → channelAfter c (xs ++ ys) ≡ channelAfter (channelAfter c xs) ys
+pub after-append : (c : Channel) (xs ys : List (List ℕ)) → channelAtEnd c (xs ++ ys) ≡ channelAtEnd (channelAtEnd c xs) ys
 after-append c [] ys = refl
 after-append c (x ∷ xs) ys = after-append (stepOf c x .channel) xs ys
 
-pub answers-append : (c : Channel) (xs ys : List (List ℕ)) → answersOf c (xs ++ ys) ≡ answersOf c xs ++ answersOf (channelAfter c xs) ys
+pub answers-append : (c : Channel) (xs ys : List (List ℕ)) → answersOf c (xs ++ ys) ≡ answersOf c xs ++ answersOf (channelAtEnd c xs) ys
 answers-append c [] ys = refl
 answers-append c (x ∷ xs) ys = ap (λ (l : List Outcome). stepOf c x .answer ∷ l) (answers-append (stepOf c x .channel) xs ys)
 

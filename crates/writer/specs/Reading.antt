@@ -10,7 +10,7 @@ use lib.ListN.{length, take, drop, replicate}
 use Rattle.answers.specs.Numbers as answers
 use Rattle.gf2.specs.Poly.{bit}
 use Rattle.header.specs.Fields.{field, Bytes}
-use Rattle.channel.specs.Answers.{Outcome, taken, message, refused, outcome, paper}
+use Rattle.channel.specs.Answers.{Outcome, taken, message, refused, outcome, toldStep}
 use Rattle.channel.specs.Layer3.{layer3, headerOf}
 use Rattle.channel.specs.State.{keepsRule, stepOf}
 use Rattle.channel.specs.declared.Channel.{Channel}
@@ -19,10 +19,10 @@ use Rattle.channel.specs.declared.Header.{Header}
 use Rattle.channel.specs.declared.Phase.the-variants.{Ready}
 use Rattle.channel.specs.declared.Stepped.{Stepped}
 use Rattle.group.specs.Answers as group
-use Rattle.group.specs.Leading.{Message, Joined, joinAnswers, groupLeft, bufferLeft}
+use Rattle.group.specs.Leading.{Message, JoinResult, joinAnswers, groupLeft, bufferLeft}
 use Rattle.group.specs.State.{idle}
 use Rattle.group.specs.declared.Group.{Group}
-use Rattle.writer.specs.Message.{headerFor, blocksOf, messageBytes, within}
+use Rattle.writer.specs.Message.{headerFor, blocksFilled, messageBytes, messageInWidths}
 use Rattle.writer.specs.Group.{messagesFor, messagesOf}
 use Rattle.writer.specs.declared.Series.{Series}
 use Rattle.writer.specs.declared.Wrote.{Wrote}
@@ -39,7 +39,7 @@ abbrev pub Steps : Channel → List (List ℕ) → List Stepped → Type 0
 Steps c [] [] = Unit
 Steps c [] (r ∷ steps) = ⊥
 Steps c (b ∷ blocks) [] = ⊥
-Steps c (b ∷ blocks) (r ∷ steps) = (paper r ≡ stepOf c b) × Steps (r .channel) blocks steps
+Steps c (b ∷ blocks) (r ∷ steps) = (toldStep r ≡ stepOf c b) × Steps (r .channel) blocks steps
 
 -- every answer, and the channel at the end
 abbrev pub answersIn : List Stepped → List Outcome
@@ -64,12 +64,12 @@ dataOf m bytes = take (m .length) (drop (m .size) bytes)
 
 -- "taken" .. "message" with every header field
 abbrev pub heard : Header → List Outcome
-heard m = replicate (blocksOf m - 1) taken ++ (message m ∷ [])
+heard m = replicate (blocksFilled m - 1) taken ++ (message m ∷ [])
 
 -- of a message written, the blocks of the output from a channel that listens and expects their first SC: "taken" .. "message", and the channel
 -- listens again, expects the SC after the last block's, and holds the data from byte h on
 pub record ReadBack (m : Fields) (s : List ℕ) (w : Wrote) (c : Channel) (steps : List Stepped) : Type 0 where
-  pub blocks : w .blocks ≡ blocksOf (headerFor m (length s))
+  pub blocks : w .blocks ≡ blocksFilled (headerFor m (length s))
   pub answers : answersIn steps ≡ heard (headerFor m (length s))
   pub listens : Listens (channelLeft c steps)
   pub expected : channelLeft c steps .expected ≡ (c .expected + w .blocks) % 16
@@ -101,7 +101,7 @@ fieldsOf m = record { ri = m .ri; ci = m .ci; first = m .first; last = m .last; 
 -- says it of what the writer leaves
 pub record MessageAgain (m : Header) (bytes gathered : List ℕ) : Type 0 where
   pub front : take (length gathered) bytes ≡ gathered
-  pub fits : (sc : ℕ) → sc ≤ 15 → within (fieldsOf m) sc (length (dataOf m bytes)) ≡ true
+  pub fits : (sc : ℕ) → sc ≤ 15 → messageInWidths (fieldsOf m) sc (length (dataOf m bytes)) ≡ true
   pub header : headerFor (fieldsOf m) (length (dataOf m bytes)) ≡ m
   pub same : messageBytes (headerFor (fieldsOf m) (length (dataOf m bytes))) (dataOf m bytes) ≡ gathered
 
@@ -133,7 +133,7 @@ heardAll (m ∷ messages) = heard (headerFor (m .fields) (length (m .bytes))) ++
 -- of a group written, the blocks of the output through a channel: "taken" .. "message" for each message written, and the channel listens again and
 -- expects the SC after the last block's; and the messages that it gave through a group state: "taken" .. "group" with the data's length, the
 -- state idle, and the data in front of the buffer
-pub record GroupBack (x : Series) (s : List ℕ) (w : Wrote) (c : Channel) (steps : List Stepped) (g : Group) (buffer : List ℕ) (joins : List Joined) : Type 0 where
+pub record GroupBack (x : Series) (s : List ℕ) (w : Wrote) (c : Channel) (steps : List Stepped) (g : Group) (buffer : List ℕ) (joins : List JoinResult) : Type 0 where
   pub channelAnswers : answersIn steps ≡ heardAll (messagesOf (messagesFor (length s)) true (x .number) (x .ri) (x .ci) s)
   pub messages : messagesIn steps ≡ messagesOf (messagesFor (length s)) true (x .number) (x .ri) (x .ci) s
   pub listens : Listens (channelLeft c steps)

@@ -5,7 +5,7 @@ use mathlib.Core.Path.{_≡_, refl, sym, _∙_}
 use mathlib.Core.List.{[]}
 use native.Mathlib.Omega.{arith}
 use Rattle.log.specs.declared.Reader.{Reader}
-use Rattle.log.specs.Reader.{fresh}
+use Rattle.log.specs.Reader.{freshReader}
 use Rattle.log.proofs.Runs.{run-none}
 use Rattle.intake.specs.Intake.{Reached}
 use Rattle.intake.proofs.read_all.Statement.{statement}
@@ -21,8 +21,8 @@ start-requires : tie.Need-start-requires Inv-loop μ-loop
 start-requires c κs = tt
 
 -- no byte has come yet
-reached-fresh : (s : Reader) → s ≡ fresh → Reached s
-reached-fresh s e = record { bytes = []; small = λ k. lit< tt; led = run-none fresh ∙ sym e }
+reached-fresh : (s : Reader) → s ≡ freshReader → Reached s
+reached-fresh s e = record { bytes = []; small = λ k. lit< tt; led = run-none freshReader ∙ sym e }
 
 loop-holds : tie.Need-loop-holds Inv-loop μ-loop
 loop-holds c = (refl, reached-fresh _ (c .start .ensures))

@@ -1,6 +1,6 @@
 use Rattle.summary.proofs.Same.{summary-given}
 use Rattle.summary.specs.Export.{exportedOf}
-use Rattle.summary.specs.Report.{written}
+use Rattle.summary.specs.Report.{delivered}
 use lib.Ieee.{binary64, fits}
 use lib.Dec.{T}
 use denote.Ref.{now}
@@ -32,7 +32,7 @@ same-length c = c .before .before .deliver .kept .1 .0
 
 returns : tie.Need-returns
 unfolding exportedOf
-returns c = c .before .before .deliver .ensures ∙ ap (λ (l : List ℕ). written l (now (c .before .before .before .before .before .before .before .before .before .before .args .out))) (c .before .before .before .before .row-text .ensures) ∙ sym (rw (sym (c .before .before .before .before .before .before .before .before .is-counts .ensures) ∙ c .before .before .before .before .before .before .before .if1 .taken, sym (c .before .before .before .before .before .before .is-summary .ensures) ∙ c .before .before .before .before .before .if2 .taken))
+returns c = c .before .before .deliver .ensures ∙ ap (λ (l : List ℕ). delivered l (now (c .before .before .before .before .before .before .before .before .before .before .args .out))) (c .before .before .before .before .row-text .ensures) ∙ sym (rw (sym (c .before .before .before .before .before .before .before .before .is-counts .ensures) ∙ c .before .before .before .before .before .before .before .if1 .taken, sym (c .before .before .before .before .before .before .is-summary .ensures) ∙ c .before .before .before .before .before .if2 .taken))
 
 returns-2 : tie.Need-returns-2
 unfolding exportedOf

@@ -1,4 +1,4 @@
-use Rattle.summary.specs.Report.{reportedOf, written}
+use Rattle.summary.specs.Report.{reportedOf, delivered}
 use denote.Ref.{now}
 use Prim.Native.Nat.{ℕ}
 use mathlib.Core.List.{List}
@@ -20,7 +20,7 @@ same-length c = c .before .before .deliver .kept .1 .0
 
 returns : tie.Need-returns
 unfolding reportedOf
-returns c = c .before .before .deliver .ensures ∙ ap (λ (l : List ℕ). written l (now (c .before .before .before .before .before .before .before .before .args .out))) (c .before .before .before .before .report-text .ensures) ∙ sym (rw (sym (c .before .before .before .before .before .before .is-counts .ensures) ∙ c .before .before .before .before .before .if1 .taken))
+returns c = c .before .before .deliver .ensures ∙ ap (λ (l : List ℕ). delivered l (now (c .before .before .before .before .before .before .before .before .args .out))) (c .before .before .before .before .report-text .ensures) ∙ sym (rw (sym (c .before .before .before .before .before .before .is-counts .ensures) ∙ c .before .before .before .before .before .if1 .taken))
 
 returns-2 : tie.Need-returns-2
 unfolding reportedOf

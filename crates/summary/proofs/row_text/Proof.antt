@@ -1,7 +1,7 @@
 use Rattle.summary.proofs.Texts.{grows-same, grows-then, grows-whole}
 use Rattle.summary.proofs.Exactly.{row-fits}
 use Rattle.summary.proofs.Same.{mean-given, missing-given}
-use Rattle.summary.specs.Export.{rowOf}
+use Rattle.summary.specs.Export.{sheetRow}
 use Rattle.summary.specs.Report.{ended}
 use Rattle.log.specs.Decimal.{decimal}
 use Prim.Native.Nat.{ℕ}
@@ -59,7 +59,7 @@ put-byte-requires-2 : tie.Need-put-byte-requires-2
 put-byte-requires-2 c κs = search needs
 
 returns : tie.Need-returns
-unfolding rowOf
+unfolding sheetRow
 returns c =
     let s = c .before .before .before .before .before .before .before .before .before .before .before .before .before .before .before .before .args .summary in let k = c .before .before .before .before .before .before .before .before .before .before .before .before .before .before .before .before .args .counts in
     grows-whole (c .before .before .before .before .before .before .before .before .before .before .before .before .before .before .before .empty .ensures) (row-fits k s (mean-given s k (c .before .before .before .before .before .before .before .before .before .before .before .before .before .before .before .before .pre .1) (c .before .before .before .before .before .before .before .before .before .before .before .before .before .before .before .before .pre .0)) (missing-given s k (c .before .before .before .before .before .before .before .before .before .before .before .before .before .before .before .before .pre .1) (c .before .before .before .before .before .before .before .before .before .before .before .before .before .before .before .before .pre .0)))

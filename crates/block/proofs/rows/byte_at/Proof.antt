@@ -1,7 +1,7 @@
 -- `block::rows::byte_at`: the places from j on are in the byte. Assumes nothing.
 use native.Mathlib.Nat.{add-zero}
 use Rattle.block.proofs.Turns.{byte-turn, byte-small}
-use Rattle.block.specs.Bytes.{packed}
+use Rattle.block.specs.Bytes.{byteOf}
 use lib.ListN.{take, drop}
 use lib.Dec.{lit≤}
 use borrow.Author.Needs.{needs}
@@ -12,7 +12,7 @@ use Rattle.block.proofs.rows.byte_at.Statement.{statement}
 use Rattle.block.proofs.rows.byte_at.Tie as tie
 
 abbrev Inv-loop : tie.InvT-loop
-Inv-loop row at byte₀ j₀ byte j = (j ≤ 8) × (byte ≡ packed (take (8 - j) (drop (at + j) row)))
+Inv-loop row at byte₀ j₀ byte j = (j ≤ 8) × (byte ≡ byteOf (take (8 - j) (drop (at + j) row)))
 
 abbrev μ-loop : tie.MeasureT-loop
 μ-loop row at byte₀ j₀ byte j = j
@@ -65,7 +65,7 @@ returns : tie.Need-returns Inv-loop μ-loop
 returns c =
     let a = c .before .before .before .args in
     let done : c .before .loop .j ≡ 0 = omega arith in
-    c .before .loop .inv .1 ∙ ap (λ (n : ℕ). packed (take (8 - n) (drop (a .at + n) (a .row .now)))) done ∙ ap (λ (n : ℕ). packed (take 8 (drop n (a .row .now)))) (add-zero (a .at))
+    c .before .loop .inv .1 ∙ ap (λ (n : ℕ). byteOf (take (8 - n) (drop (a .at + n) (a .row .now)))) done ∙ ap (λ (n : ℕ). byteOf (take 8 (drop n (a .row .now)))) (add-zero (a .at))
 
 pub byte-at-spec : {M : Type 1} → statement M
 byte-at-spec =

@@ -1,7 +1,7 @@
 -- `block::rows::pack`: the bytes below k are packed. Assumes nothing.
 use mathlib.Core.Path.{refl, _≡_, ap, _∙_}
 use Rattle.block.proofs.Bytes.{bytes-filled}
-use Rattle.block.specs.Bytes.{packed}
+use Rattle.block.specs.Bytes.{byteOf}
 use Rattle.gf2.proofs.Lists.{Filled, filled-more}
 use lib.ListN.{length, take, drop, length-set}
 use borrow.Author.Needs.{needs}
@@ -11,7 +11,7 @@ use Rattle.block.proofs.rows.pack.Statement.{statement}
 use Rattle.block.proofs.rows.pack.Tie as tie
 
 abbrev Inv-loop : tie.InvT-loop
-Inv-loop row out₀ k₀ out k = (k ≤ length out₀) × (length out ≡ length out₀) × Filled 0 (λ i. packed (take 8 (drop (8 * i) row))) out k
+Inv-loop row out₀ k₀ out k = (k ≤ length out₀) × (length out ≡ length out₀) × Filled 0 (λ i. byteOf (take 8 (drop (8 * i) row))) out k
 
 abbrev μ-loop : tie.MeasureT-loop
 μ-loop row out₀ k₀ out k = length out₀ - k
@@ -40,7 +40,7 @@ loop-again c =
     let a = h .before .before .before .args in (
       search needs,
       length-set (h .loop .out) (h .loop .k) (c .byte-at .result) ∙ h .loop .inv .1,
-      filled-more 0 (λ i. packed (take 8 (drop (8 * i) (a .row .now)))) (h .loop .out) (h .loop .k) (c .byte-at .result) (omega arith) (c .byte-at .ensures) (h .loop .inv .2),
+      filled-more 0 (λ i. byteOf (take 8 (drop (8 * i) (a .row .now)))) (h .loop .out) (h .loop .k) (c .byte-at .result) (omega arith) (c .byte-at .ensures) (h .loop .inv .2),
     )
 
 same-length : tie.Need-same-length Inv-loop μ-loop

@@ -4,7 +4,7 @@ use mathlib.Core.Path.{_≡_, sym, ap, _∙_}
 use native.Mathlib.Omega.{arith}
 use lib.ListN.{length, take}
 use lib.Seq.{length-take-le}
-use Rattle.header.specs.Fields.{numberOf}
+use Rattle.header.specs.Fields.{headerFrom}
 use Rattle.channel.specs.Layer4.{opened, openedAt, extOf}
 use borrow.Author.Needs.{needs}
 use Rattle.channel.proofs.layer4.header_at.Statement.{statement}
@@ -39,7 +39,7 @@ unfolding openedAt
 returns c =
     let k = c .before .before .before in
     let bytes = k .before .before .before .args .bytes .now in
-    c .parted .ensures ∙ ap (opened (extOf bytes)) (c .before .number .ensures .0 ∙ ap (λ (n : ℕ). numberOf (take n bytes)) (k .size-of .ensures .0))
+    c .parted .ensures ∙ ap (opened (extOf bytes)) (c .before .number .ensures .0 ∙ ap (λ (n : ℕ). headerFrom (take n bytes)) (k .size-of .ensures .0))
 
 pub header-at-spec : {M : Type 1} → statement M
 header-at-spec =

@@ -8,12 +8,12 @@ use borrow.Author.Needs.{needs}
 use lib.Dec.{eqb}
 use lib.ListN.{length, drop, drop-of-length-le}
 use Rattle.gf2.proofs.Lists.{drop-one}
-use Rattle.channel.specs.Layer4.{blocksFor, zeros}
+use Rattle.channel.specs.Layer4.{blocksFor, isPadding}
 use Rattle.channel.proofs.layer4.padded.Statement.{statement}
 use Rattle.channel.proofs.layer4.padded.Tie as tie
 
 abbrev Inv-loop : tie.InvT-loop
-Inv-loop bytes end right₀ i₀ right i = (right && zeros (drop i bytes)) ≡ (eqb (blocksFor end * 20) (length bytes) && zeros (drop end bytes))
+Inv-loop bytes end right₀ i₀ right i = (right && isPadding (drop i bytes)) ≡ (eqb (blocksFor end * 20) (length bytes) && isPadding (drop end bytes))
 
 abbrev μ-loop : tie.MeasureT-loop
 μ-loop bytes end right₀ i₀ right i = length bytes - i
@@ -40,12 +40,12 @@ loop-again : tie.Need-loop-again Inv-loop μ-loop
 loop-again c =
     let k = c .before .before in
     let s = k .before .args .bytes .now in
-    and-assoc (k .loop .right) _ _ ∙ sym (ap (λ (l : List ℕ). k .loop .right && zeros l) (drop-one s (k .loop .i) 0 (omega arith))) ∙ k .loop .inv
+    and-assoc (k .loop .right) _ _ ∙ sym (ap (λ (l : List ℕ). k .loop .right && isPadding l) (drop-one s (k .loop .i) 0 (omega arith))) ∙ k .loop .inv
 
 returns : tie.Need-returns Inv-loop μ-loop
 returns c =
     let l = c .before .loop in
-    sym (ap (λ (s : List ℕ). l .right && zeros s) (drop-of-length-le (c .before .before .args .bytes .now) {i = l .i} (omega arith)) ∙ and-true (l .right)) ∙ l .inv
+    sym (ap (λ (s : List ℕ). l .right && isPadding s) (drop-of-length-le (c .before .before .args .bytes .now) {i = l .i} (omega arith)) ∙ and-true (l .right)) ∙ l .inv
 
 pub padded-spec : {M : Type 1} → statement M
 padded-spec =

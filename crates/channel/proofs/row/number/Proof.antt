@@ -5,13 +5,13 @@ use native.Mathlib.Numerals.{unary-clauses}
 use native.Mathlib.Omega.{arith}
 use borrow.Author.Needs.{needs}
 use lib.ListN.{length, drop, replicate}
-use Rattle.header.specs.Fields.{behind, numberOf}
+use Rattle.header.specs.Fields.{behind, headerFrom}
 use Rattle.channel.proofs.Rows.{room, number-turn, number-end}
 use Rattle.channel.proofs.row.number.Statement.{statement}
 use Rattle.channel.proofs.row.number.Tie as tie
 
 abbrev Inv-loop : tie.InvT-loop
-Inv-loop bytes h₀ i₀ h i = (i ≤ length bytes) × (h < 2 ^ (8 * i)) × (behind h (replicate (length bytes - i) 8) (drop i bytes) ≡ numberOf bytes)
+Inv-loop bytes h₀ i₀ h i = (i ≤ length bytes) × (h < 2 ^ (8 * i)) × (behind h (replicate (length bytes - i) 8) (drop i bytes) ≡ headerFrom bytes)
 
 abbrev μ-loop : tie.MeasureT-loop
 μ-loop bytes h₀ i₀ h i = length bytes - i

@@ -4,8 +4,8 @@ use mathlib.Core.Path.{ap, _∙_, sym}
 use Prim.Native.Nat.{ℕ, _+_, _%_}
 use native.Mathlib.Omega.{arith}
 use borrow.Author.Tests.{not-true, not-false}
-use Rattle.channel.specs.Answers.{leaves, refused}
-use Rattle.channel.specs.State.{joined}
+use Rattle.channel.specs.Answers.{channelAfter, refused}
+use Rattle.channel.specs.State.{afterJoining}
 use Rattle.channel.proofs.Laws.{rule-bytes}
 use Rattle.channel.proofs.Steps.{out-of-step, too-many, joins-on}
 use borrow.Author.Needs.{needs}
@@ -26,7 +26,7 @@ returns c =
     let k = c .before .before .before in
     let a = k .before .before .args in
     c .refused .ensures
-    ∙ ap (leaves (refused 8)) (c .before .as-waiting .ensures)
+    ∙ ap (channelAfter (refused 8)) (c .before .as-waiting .ensures)
     ∙ out-of-step (a .channel) (a .lf) (a .sc) (a .twenty .now) (sym (k .in-step .ensures) ∙ not-true (k .in-step .result) (c .before .before .if1 .taken))
 
 as-waiting-requires-2 : tie.Need-as-waiting-requires-2
@@ -40,7 +40,7 @@ returns-2 c =
     let k = c .before .before .before .before in
     let a = k .before .before .args in
     c .refused2 .ensures
-    ∙ ap (leaves (refused 9)) (c .before .as-waiting2 .ensures)
+    ∙ ap (channelAfter (refused 9)) (c .before .as-waiting2 .ensures)
     ∙ too-many (a .channel) (a .lf) (a .sc) (a .twenty .now) (sym (k .in-step .ensures) ∙ not-false (k .in-step .result) (c .before .before .before .if1 .left)) (c .before .before .if2 .taken)
 
 join-requires : tie.Need-join-requires
@@ -64,7 +64,7 @@ returns-3 c =
     let k = c .before .before .before .before .before in
     let a = k .before .before .args in
     c .gather .ensures
-    ∙ ap (λ (bytes : List ℕ). joined bytes (a .channel .gathered + 20) (a .lf) ((a .sc + 1) % 16)) (c .before .join .ensures)
+    ∙ ap (λ (bytes : List ℕ). afterJoining bytes (a .channel .gathered + 20) (a .lf) ((a .sc + 1) % 16)) (c .before .join .ensures)
     ∙ joins-on (a .channel) (a .lf) (a .sc) (a .twenty .now) (sym (k .in-step .ensures) ∙ not-false (k .in-step .result) (c .before .before .before .before .if1 .left)) (c .before .before .before .if2 .left)
 
 pub advance-spec : {M : Type 1} → statement M

@@ -3,7 +3,7 @@ use mathlib.Core.Path.{_≡_, sym}
 use native.Mathlib.Omega.{arith}
 use lib.ListN.{length}
 use lib.Seq.{length-take-le}
-use Rattle.channel.specs.State.{joined}
+use Rattle.channel.specs.State.{afterJoining}
 use borrow.Author.Needs.{needs}
 use Rattle.channel.proofs.state.gather.Statement.{statement}
 use Rattle.channel.proofs.state.gather.Tie as tie
@@ -25,11 +25,11 @@ read-requires c κs =
     omega arith
 
 returns : tie.Need-returns
-unfolding joined
+unfolding afterJoining
 returns c = simp (c .before .before .if1 .taken, c .read .ensures)
 
 returns-2 : tie.Need-returns-2
-unfolding joined
+unfolding afterJoining
 returns-2 c = simp (c .if1 .left)
 
 pub gather-spec : {M : Type 1} → statement M

@@ -5,8 +5,8 @@ use mathlib.Core.Path.{_≡_, sym, ap, _∙_}
 use native.Mathlib.Omega.{arith}
 use borrow.Author.Tests.{lt-leb, not-true, not-false}
 use lib.ListN.{length}
-use Rattle.group.specs.Answers.{refused, leaves}
-use Rattle.group.specs.State.{keepsRule, within}
+use Rattle.group.specs.Answers.{refused, groupAfter}
+use Rattle.group.specs.State.{keepsRule, messageFits}
 use Rattle.group.specs.declared.Group.{Group}
 use Rattle.group.proofs.Laws.{within-bounds}
 use Rattle.group.proofs.Joining.{rules, ours, short, outside, other, out-of-step, too-many, joins, base-room}
@@ -25,7 +25,7 @@ owned c = sym (c .before .belongs .ensures) ∙ not-false (c .before .belongs .r
 based : (c : tie.After-base) → let b = c .base .result in (b .held ≤ 255 * b .messages) × (b .ci ≤ 3)
 based c =
     let a = c .before .before .before .before .before .before .before .before .args in
-    let t = and-eq-true-iff (keepsRule (a .self)) (within (a .message) (length (a .«data» .now))) .0 (ruled (c .before .before .before) .1) in
+    let t = and-eq-true-iff (keepsRule (a .self)) (messageFits (a .message) (length (a .«data» .now))) .0 (ruled (c .before .before .before) .1) in
     base-room (a .self) (t .0) (a .message .first) (c .base .result) (c .base .ensures)
 
 refused-requires : tie.Need-refused-requires
@@ -76,7 +76,7 @@ returns-4 c =
     let f = ruled (b .before .before .before) in
     let a = b .before .before .before .before .before .before .before .before .args in
     c .refused4 .ensures _
-    ∙ ap (λ (g : Group). leaves (refused 8) g (a .buffer .now)) (c .before .idle .ensures)
+    ∙ ap (λ (g : Group). groupAfter (refused 8) g (a .buffer .now)) (c .before .idle .ensures)
     ∙ out-of-step (a .self) (a .message) (a .«data» .now) (a .buffer .now) (f .0) (f .1) (owned (b .before)) (b .base .result) (b .base .ensures) (sym (k .in-step .ensures) ∙ not-true (k .in-step .result) (c .before .before .if4 .taken))
 
 idle-requires-2 : tie.Need-idle-requires-2
@@ -92,7 +92,7 @@ returns-5 c =
     let f = ruled (b .before .before .before) in
     let a = b .before .before .before .before .before .before .before .before .args in
     c .refused5 .ensures _
-    ∙ ap (λ (g : Group). leaves (refused 9) g (a .buffer .now)) (c .before .idle2 .ensures)
+    ∙ ap (λ (g : Group). groupAfter (refused 9) g (a .buffer .now)) (c .before .idle2 .ensures)
     ∙ too-many (a .self) (a .message) (a .«data» .now) (a .buffer .now) (f .0) (f .1) (owned (b .before)) (b .base .result) (b .base .ensures) (sym (k .in-step .ensures) ∙ not-false (k .in-step .result) (c .before .before .before .before .if4 .left)) (c .before .before .if5 .taken)
 
 join-on-requires : tie.Need-join-on-requires
@@ -100,7 +100,7 @@ join-on-requires c κs =
     let b = c .before .before .before .before .before in
     let f = ruled (b .before .before .before) in
     let a = b .before .before .before .before .before .before .before .before .args in
-    let t = and-eq-true-iff (keepsRule (a .self)) (within (a .message) (length (a .«data» .now))) .0 (f .1) in
+    let t = and-eq-true-iff (keepsRule (a .self)) (messageFits (a .message) (length (a .«data» .now))) .0 (f .1) in
     (c .before .if5 .left, omega (arith, based b .0, f .0, within-bounds (a .message) (length (a .«data» .now)) (t .1) .0, c .before .if5 .left))
 
 same-length : tie.Need-same-length

@@ -1,8 +1,8 @@
 -- `group::state::join_on`: the copy to the counted place, and the state by Last. Assumes nothing.
 use Rattle.channel.proofs.Laws.{copied}
 use Rattle.group.specs.declared.Phase.the-variants.{Gathering}
-use Rattle.group.specs.State.{idle, groupOf, joinedOn}
-use Rattle.group.specs.Answers.{taken, whole, leaves}
+use Rattle.group.specs.State.{idle, groupWith, joinedOn}
+use Rattle.group.specs.Answers.{taken, whole, groupAfter}
 use Prim.Native.Nat.{_+_}
 use mathlib.Core.Path.{refl}
 use borrow.Author.Needs.{needs}
@@ -35,7 +35,7 @@ unfolding joinedOn
 returns c =
     let k = c .before .before .before .before in
     let a = k .before .before .before .before .args in
-    rw (c .before .if1 .taken) (λ i. leaves (whole (a .group .held + k .copy .ensures .0 i)) (c .idle .ensures i) (copied (a .buffer .now) (a .«data» .now) _ (a .group .held) _ refl (k .copy .ensures .1) i))
+    rw (c .before .if1 .taken) (λ i. groupAfter (whole (a .group .held + k .copy .ensures .0 i)) (c .idle .ensures i) (copied (a .buffer .now) (a .«data» .now) _ (a .group .held) _ refl (k .copy .ensures .1) i))
 
 add-t18 : tie.Need-add-t18
 add-t18 c = search needs
@@ -48,7 +48,7 @@ unfolding joinedOn
 returns-2 c =
     let k = c .before .before .before .before in
     let a = k .before .before .before .before .args in
-    rw (c .before .if1 .left) (λ i. leaves taken (groupOf (a .group .number) Gathering (a .group .held + k .copy .ensures .0 i) (a .group .messages + 1) (a .message .ci)) (copied (a .buffer .now) (a .«data» .now) _ (a .group .held) _ refl (k .copy .ensures .1) i))
+    rw (c .before .if1 .left) (λ i. groupAfter taken (groupWith (a .group .number) Gathering (a .group .held + k .copy .ensures .0 i) (a .group .messages + 1) (a .message .ci)) (copied (a .buffer .now) (a .«data» .now) _ (a .group .held) _ refl (k .copy .ensures .1) i))
 
 pub join-on-spec : {M : Type 1} → statement M
 join-on-spec =

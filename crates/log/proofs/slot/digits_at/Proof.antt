@@ -1,7 +1,7 @@
 use denote.Ref.{now}
 use lib.ListN.{getD}
 use Rattle.log.proofs.Slots.{reads-none, reads-digit, reads-small}
-use Rattle.log.specs.Machine.{Reads}
+use Rattle.log.specs.Machine.{DigitsAt}
 use Rattle.band.proofs.Laws.{within}
 use Prim.Native.Nat.{_+_, _-_}
 use borrow.Author.Tests.{not-false}
@@ -11,7 +11,7 @@ use Rattle.log.proofs.slot.digits_at.Statement.{statement}
 use Rattle.log.proofs.slot.digits_at.Tie as tie
 
 abbrev Inv-loop : tie.InvT-loop
-Inv-loop text from number₀ at₀ number at = Reads text from at number
+Inv-loop text from number₀ at₀ number at = DigitsAt text from at number
 
 abbrev μ-loop : tie.MeasureT-loop
 μ-loop text from number₀ at₀ number at = from + 6 - at

@@ -6,7 +6,7 @@ use native.Mathlib.Omega.{arith}
 use borrow.Author.Tests.{ne-eqb, eqb-true}
 use denote.Ref.{now}
 use lib.ListN.{length}
-use Rattle.log.specs.Machine.{Reads}
+use Rattle.log.specs.Machine.{DigitsAt}
 use Rattle.log.proofs.Outcomes.{before-sound}
 use Rattle.log.proofs.Sound.{sound}
 use Rattle.log.proofs.Slots.{next-slot}
@@ -52,7 +52,7 @@ returns-4 c =
     let u = and-eq-true-iff _ _ .0 (t .0) in (
       w,
       λ h. next-slot (a .counts) l (a .from) (d .result .end)
-          (subst (λ (n : ℕ). Reads l (a .from) (d .result .end) n) (eqb-true _ _ (s .0)) (d .ensures))
+          (subst (λ (n : ℕ). DigitsAt l (a .from) (d .result .end) n) (eqb-true _ _ (s .0)) (d .ensures))
           (ne-eqb _ _ (c .before .before .before .before .before .before .before .before .before .if1 .left)) h (eqb-true _ _ (u .0)) (t .1) (eqb-true _ _ (u .1)),
     )
 

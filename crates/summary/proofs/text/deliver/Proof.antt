@@ -1,4 +1,4 @@
-use Rattle.summary.specs.Report.{told}
+use Rattle.summary.specs.Report.{toldText}
 use Rattle.answers.specs.Numbers.{accepted}
 use Rattle.answers.specs.declared.Answer.the-variants.{Accepted}
 use lib.ListN.{take, drop, length, length-take}
@@ -52,7 +52,7 @@ returns-2 c =
     let m = c .before .before .before .before .before .before .least in
     let n : m .result ≡ length (content t) = m .ensures ∙ sym (k .1) in
     let e : take (m .result) (t .bytes) ≡ content t = ap (λ (j : ℕ). take j (t .bytes)) (m .ensures) ∙ k .0 in
-    ap (λ (l : List ℕ). told (record { answer = Accepted; length = m .result }) l)
+    ap (λ (l : List ℕ). toldText (record { answer = Accepted; length = m .result }) l)
     (c .before .before .copy .ensures .1 ∙ (λ i. take (length (e i)) (e i) ++ drop (length (e i)) o)
     ∙ ap (λ (l : List ℕ). l ++ drop (length (content t)) o) (take-all (length (content t)) (content t) (omega arith)))
     ∙ ap (λ (j : ℕ). record { answer = accepted; length = j; out = content t ++ drop (length (content t)) o }) n

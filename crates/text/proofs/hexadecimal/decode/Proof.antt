@@ -7,12 +7,12 @@ use native.Mathlib.Omega.{arith}
 use lib.ListN.{length, getD, take, drop, length-set}
 use borrow.Author.Needs.{needs}
 use Rattle.text.proofs.Laws.{decoded, kept, decoded-all, a-digit}
-use Rattle.text.specs.Hexadecimal.{digitOf, bytesOf}
+use Rattle.text.specs.Hexadecimal.{digitOf, decoded}
 use Rattle.text.proofs.hexadecimal.decode.Statement.{statement}
 use Rattle.text.proofs.hexadecimal.decode.Tie as tie
 
 abbrev Inv-loop : tie.InvT-loop
-Inv-loop digits output₀ count i₀ output i = (i ≤ count) × (length output ≡ length output₀) × (take i output ++ bytesOf (drop (2 * i) digits) ≡ bytesOf digits) × (drop i output ≡ drop i output₀)
+Inv-loop digits output₀ count i₀ output i = (i ≤ count) × (length output ≡ length output₀) × (take i output ++ decoded (drop (2 * i) digits) ≡ decoded digits) × (drop i output ≡ drop i output₀)
 
 abbrev μ-loop : tie.MeasureT-loop
 μ-loop digits output₀ count i₀ output i = count - i

@@ -5,12 +5,12 @@ use native.Mathlib.Omega.{arith}
 use lib.ListN.{getD, length, drop, drop-of-length-le}
 use borrow.Author.Tests.{eq-eqb, ne-eqb, le-leb, lt-leb, not-true, not-false}
 use Rattle.text.proofs.Laws.{next, ranged}
-use Rattle.text.specs.Numbers.{numberOf, digitsFrom, decimal}
+use Rattle.text.specs.Numbers.{readNumberOf, digitsFrom, isDecimal}
 use Rattle.text.proofs.numbers.read_number.Statement.{statement}
 use Rattle.text.proofs.numbers.read_number.Tie as tie
 
 abbrev Inv-loop : tie.InvT-loop
-Inv-loop digits most value₀ i₀ value i = (i ≤ length digits) × (value ≤ most) × (numberOf most digits ≡ digitsFrom most value (drop i digits))
+Inv-loop digits most value₀ i₀ value i = (i ≤ length digits) × (value ≤ most) × (readNumberOf most digits ≡ digitsFrom most value (drop i digits))
 
 abbrev μ-loop : tie.MeasureT-loop
 μ-loop digits most value₀ i₀ value i = length digits - i
@@ -32,7 +32,7 @@ returns-2 : tie.Need-returns-2 Inv-loop μ-loop
 returns-2 c =
     let p = c .before .before .before in
     let s = p .before .before .args .digits .now in
-    sym (p .loop .inv .2 ∙ rw (next s (p .loop .i) (omega arith), not-true (decimal (getD s (p .loop .i) 0)) (c .if2 .taken)))
+    sym (p .loop .inv .2 ∙ rw (next s (p .loop .i) (omega arith), not-true (isDecimal (getD s (p .loop .i) 0)) (c .if2 .taken)))
 
 mul-value : tie.Need-mul-value Inv-loop μ-loop
 mul-value c = omega arith
@@ -51,7 +51,7 @@ returns-3 c =
     let p = c .before .before .before .before in
     let s = p .before .before .args .digits .now in
     let x = getD s (p .loop .i) 0 in
-    sym (p .loop .inv .2 ∙ rw (next s (p .loop .i) (omega arith), not-false (decimal x) (c .before .if2 .left), lt-leb (p .loop .value * 10 + (x - 48)) (p .before .before .args .most) (c .if3 .taken)))
+    sym (p .loop .inv .2 ∙ rw (next s (p .loop .i) (omega arith), not-false (isDecimal x) (c .before .if2 .left), lt-leb (p .loop .value * 10 + (x - 48)) (p .before .before .args .most) (c .if3 .taken)))
 
 add-i : tie.Need-add-i Inv-loop μ-loop
 add-i c = omega arith
@@ -64,7 +64,7 @@ loop-again c =
     let p = c .before .before .before .before in
     let s = p .before .before .args .digits .now in
     let x = getD s (p .loop .i) 0 in
-    (omega arith, c .if3 .left, p .loop .inv .2 ∙ rw (next s (p .loop .i) (omega arith), not-false (decimal x) (c .before .if2 .left), le-leb (p .loop .value * 10 + (x - 48)) (p .before .before .args .most) (c .if3 .left)))
+    (omega arith, c .if3 .left, p .loop .inv .2 ∙ rw (next s (p .loop .i) (omega arith), not-false (isDecimal x) (c .before .if2 .left), le-leb (p .loop .value * 10 + (x - 48)) (p .before .before .args .most) (c .if3 .left)))
 
 cast-t17 : tie.Need-cast-t17 Inv-loop μ-loop
 cast-t17 c = omega arith
