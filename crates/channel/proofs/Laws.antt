@@ -10,7 +10,7 @@ use lib.Dec.{eqb, leb}
 use lib.ListN.{length, take, drop}
 use lib.Seq.{paste, drop-drop}
 use Rattle.gf2.proofs.Lists.{tail-lent, tail-back}
-use Rattle.header.specs.Check.{check}
+use Rattle.header.specs.Header.{check}
 use Rattle.header.proofs.Bits.{check-wider}
 use Rattle.channel.specs.State.{keepsRule, phaseHolds}
 use Rattle.channel.specs.declared.Channel.{Channel}

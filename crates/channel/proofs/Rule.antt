@@ -9,7 +9,7 @@ use lib.Dec.{eqb, ltb}
 use lib.ListN.{length, drop}
 use lib.Seq.{paste}
 use Rattle.answers.proofs.Rules.{unless-elim}
-use Rattle.header.specs.Fields.{field, holds}
+use Rattle.header.specs.Header.{field, holds}
 use Rattle.channel.specs.Answers.{ChannelAfter}
 use Rattle.channel.specs.Layer3.{layer3, headerOf, lfOf, scOf}
 use Rattle.channel.specs.State.{channelWith, fresh, keepsRule, asWaiting, afterJoining, followed, inPhase, advanced, stepOf}

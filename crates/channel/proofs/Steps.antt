@@ -10,7 +10,7 @@ use lib.Dec.{eqb, ltb}
 use lib.ListN.{length, drop}
 use lib.Seq.{paste}
 use Rattle.answers.specs.Rules.{unless}
-use Rattle.header.specs.Check.{check}
+use Rattle.header.specs.Header.{check}
 use Rattle.channel.specs.Answers.{refused, channelAfter}
 use Rattle.channel.specs.Layer3.{headerOf}
 use Rattle.channel.specs.State.{keepsRule, asWaiting, afterJoining, followed, inPhase, inStep, advanced, stepOf}

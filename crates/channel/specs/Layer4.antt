@@ -5,7 +5,7 @@ use mathlib.Core.List.{List, [], _∷_}
 use lib.Dec.{eqb, leb}
 use lib.ListN.{length, getD, take, drop}
 use Rattle.answers.specs.Rules.{unless}
-use Rattle.header.specs.Fields.{total, field, flag, holds, headerFrom}
+use Rattle.header.specs.Header.{total, field, flag, holds, headerFrom}
 use Rattle.channel.specs.Answers.{Outcome, message, refused}
 use Rattle.channel.specs.declared.layer4.Opened.{Opened}
 

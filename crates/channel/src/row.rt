@@ -2,7 +2,7 @@
 ghost use mathlib.Core.Path.{_≡_};
 ghost use Prim.Native.Nat.{_*_, _<_, _≤_, _^_};
 ghost use lib.ListN.{length};
-ghost use Rattle.header.specs.Fields.{headerFrom};
+ghost use Rattle.header.specs.Header.{headerFrom};
 
 // The header that bytes are.
 pub(crate) fn number(bytes: &[u8]) -> u64

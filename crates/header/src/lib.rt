@@ -3,7 +3,7 @@
 ghost use mathlib.Core.Path.{_≡_};
 ghost use Prim.Native.Nat.{_%_, _<_};
 ghost use lib.Count.{ones};
-ghost use Rattle.header.specs.Check.{check};
+ghost use Rattle.header.specs.Header.{check};
 
 // For each check bit, the highest first, the bits of a header that it sums: bit n where x^(n + 6) leaves that check bit as it
 // is divided by x^6 + x^4 + x^3 + 1.

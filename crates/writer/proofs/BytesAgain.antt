@@ -7,11 +7,14 @@ use native.Mathlib.Omega.{arith}
 use borrow.Author.Tests.{eqb-true, lt-leb}
 use lib.Dec.{eqb, leb}
 use lib.ListN.{length, getD, take, drop, replicate, length-drop, take-append-drop}
+use lib.Pow.{areBytes}
 use lib.Seq.{take-add, length-take-le, getD-take}
+use Rattle.answers.proofs.Bytes.{bytes-parts}
 use Rattle.answers.proofs.Rules.{unless-passed}
 use Rattle.gf2.specs.Poly.{bit}
-use Rattle.header.specs.Fields.{Bytes, Fit, field, fields, header, bytesOf, headerFrom}
-use Rattle.header.proofs.Fields.{packed-lt, fields-fit, header-again, number-bytes, total-bytes}
+use Rattle.header.specs.Header.{Fit, field, fields, header, bytesOf, headerFrom}
+use Rattle.header.proofs.Fields.{fields-fit, number-bytes, number-lt}
+use Rattle.header.proofs.Bits.{bit-of, header-again}
 use Rattle.channel.specs.Answers.{Outcome, message, refused}
 use Rattle.channel.specs.Layer4.{whereExt, layer4, sizeOf, opened, extOf, openedAt, blocksFor, isPadding, rightForm, tested, messageOf}
 use Rattle.channel.specs.declared.Header.{Header}
@@ -61,11 +64,6 @@ all-passed o bytes h e =
     }
 
 -- ---- the header
-
-pub bit-of : (x : ℕ) → x < 2 → bit (eqb x 1) ≡ x
-bit-of zero h = refl
-bit-of (suc zero) h = refl
-bit-of (suc (suc n)) h = absurd (omega arith)
 
 none-of : (x : ℕ) → x < 2 → not (eqb x 1) ≡ true → x ≡ 0
 none-of zero h e = refl
@@ -118,20 +116,6 @@ module _ (ext : Bool) (h : ℕ) (bytes : List ℕ) (small : h < 2 ^ (8 * sizeOf 
 
 -- ---- header, data and padding
 
-pub bytes-take : (n : ℕ) (bytes : List ℕ) → Bytes bytes → Bytes (take n bytes)
-bytes-take zero bytes f = tt
-bytes-take (suc n) [] f = tt
-bytes-take (suc n) (b ∷ bytes) f = (f .0, bytes-take n bytes (f .1))
-
-pub bytes-append : (xs ys : List ℕ) → Bytes xs → Bytes ys → Bytes (xs ++ ys)
-bytes-append [] ys f g = g
-bytes-append (x ∷ xs) ys f g = (f .0, bytes-append xs ys (f .1) g)
-
-pub bytes-drop : (n : ℕ) (xs : List ℕ) → Bytes xs → Bytes (drop n xs)
-bytes-drop zero xs f = f
-bytes-drop (suc n) [] f = tt
-bytes-drop (suc n) (x ∷ xs) f = bytes-drop n xs (f .1)
-
 zeros-all : (s : List ℕ) → isPadding s ≡ true → s ≡ replicate (length s) 0
 zeros-all [] e = refl
 zeros-all (b ∷ s) e =
@@ -155,7 +139,7 @@ row-again m s size h count z =
     ∙ ap₂ (λ (x y : List ℕ). x ++ y) front (sym back)
     ∙ take-append-drop n s
 
-module _ (bytes : List ℕ) (fit : Bytes bytes) (long : 5 ≤ length bytes) where
+module _ (bytes : List ℕ) (fit : areBytes bytes ≡ true) (long : 5 ≤ length bytes) where
   size : ℕ
   size = sizeOf (extOf bytes)
 
@@ -168,14 +152,11 @@ module _ (bytes : List ℕ) (fit : Bytes bytes) (long : 5 ≤ length bytes) wher
 
   whole-small : whole < 2 ^ (8 * size)
   unfolding size whole
-  whole-small =
-      let front = take size bytes in
-      subst (λ (k : ℕ). whole < 2 ^ k) (total-bytes (length front) ∙ ap (λ (k : ℕ). 8 * k) taken-length)
-      (packed-lt (replicate (length front) 8) front (bytes-take size bytes fit))
+  whole-small = subst (λ (k : ℕ). whole < 2 ^ (8 * k)) taken-length (number-lt (take size bytes) (bytes-parts size bytes fit .0))
 
   whole-bytes : bytesOf size whole ≡ take size bytes
   unfolding size whole
-  whole-bytes = ap (λ (k : ℕ). bytesOf k whole) (sym taken-length) ∙ number-bytes (take size bytes) (bytes-take size bytes fit)
+  whole-bytes = ap (λ (k : ℕ). bytesOf k whole) (sym taken-length) ∙ number-bytes (take size bytes) (bytes-parts size bytes fit .0)
 
   ext-again : bit (extOf bytes) ≡ field (layer4 (extOf bytes)) 4 whole
   unfolding size whole

@@ -5,11 +5,11 @@
 use Prim.Native.Nat.{ℕ, zero, suc, _+_, _-_, _%_, _≤_}
 use mathlib.Core.Path.{_≡_}
 use mathlib.Core.Bool.{Bool, true}
-use mathlib.Core.List.{List, [], _∷_, _++_}
+use mathlib.Core.List.{List, [], _∷_, _++_, map}
 use lib.ListN.{length, take, drop, replicate}
 use Rattle.answers.specs.Numbers as answers
 use Rattle.gf2.specs.Poly.{bit}
-use Rattle.header.specs.Fields.{field, Bytes}
+use Rattle.header.specs.Header.{field}
 use Rattle.channel.specs.Answers.{Outcome, taken, message, refused, outcome, toldStep}
 use Rattle.channel.specs.Layer3.{layer3, headerOf}
 use Rattle.channel.specs.State.{keepsRule, stepOf}
@@ -22,7 +22,7 @@ use Rattle.group.specs.Answers as group
 use Rattle.group.specs.Leading.{Message, JoinResult, joinAnswers, groupLeft, bufferLeft}
 use Rattle.group.specs.State.{idle}
 use Rattle.group.specs.declared.Group.{Group}
-use Rattle.writer.specs.Message.{headerFor, blocksFilled, messageBytes, messageInWidths}
+use Rattle.writer.specs.Message.{headerFor, blocksFilled, messageBytes, messageInWidths, flat}
 use Rattle.writer.specs.Group.{messagesFor, messagesOf}
 use Rattle.writer.specs.declared.Series.{Series}
 use Rattle.writer.specs.declared.Wrote.{Wrote}
@@ -77,11 +77,6 @@ pub record ReadBack (m : Fields) (s : List ℕ) (w : Wrote) (c : Channel) (steps
 
 -- ---- an accepted message, written again
 
--- blocks of bytes
-abbrev pub OfBytes : List (List ℕ) → Type 0
-OfBytes [] = Unit
-OfBytes (b ∷ blocks) = Bytes b × OfBytes blocks
-
 -- all with this DI
 abbrev pub AllWith : Bool → List (List ℕ) → Type 0
 AllWith di [] = Unit
@@ -89,8 +84,7 @@ AllWith di (b ∷ blocks) = (field layer3 1 (headerOf b) ≡ bit di) × AllWith 
 
 -- the twenty data bytes of each block, one after the other
 abbrev pub twenties : List (List ℕ) → List ℕ
-twenties [] = []
-twenties (b ∷ blocks) = drop 2 b ++ twenties blocks
+twenties blocks = flat (map (drop 2) blocks)
 
 -- the fields of a header that the writer takes
 abbrev pub fieldsOf : Header → Fields

@@ -1,11 +1,11 @@
--- Document 01, "The long message channel": header fields stand in the order written, most significant bit first, then the check.
--- Assumes nothing.
+-- Document 01, "The long message channel": header fields stand in the order written, most significant bit first, from b7 of the first byte. Header
+-- checks use x^6 + x^4 + x^3 + 1, start value zero, over all header bits before the check. Assumes nothing.
 use Prim.Native.Nat.{ℕ, _+_, _*_, _/_, _%_, _^_, _<_}
 use mathlib.Core.Bool.{Bool}
-use mathlib.Core.List.{List, [], _∷_}
+use mathlib.Core.List.{List, [], _∷_, map}
 use lib.Dec.{eqb}
 use lib.ListN.{length, getD, replicate}
-use Rattle.header.specs.Check.{check}
+use Rattle.gf2.specs.Poly.{bit, lower, checkOf}
 
 -- the bits that fields of these widths have
 abbrev pub total : List ℕ → ℕ
@@ -34,6 +34,28 @@ Fit [] (v ∷ vs) = ⊥
 Fit (w ∷ ws) [] = ⊥
 Fit (w ∷ ws) (v ∷ vs) = (v < 2 ^ w) × Fit ws vs
 
+-- the n bytes of a header, and the header that bytes are; a byte is a field of eight bits
+abbrev pub bytesOf : ℕ → ℕ → List ℕ
+bytesOf n h = fields (replicate n 8) h
+
+abbrev pub headerFrom : List ℕ → ℕ
+headerFrom bytes = packed (replicate (length bytes) 8) bytes
+
+-- the last n bits of a number, and the number that a row of bits is; a bit is a field of one bit
+unfoldable pub bits : ℕ → ℕ → List Bool
+bits n x = map (λ v. eqb v 1) (fields (replicate n 1) x)
+
+abbrev pub number : List Bool → ℕ
+number row = packed (replicate (length row) 1) (map bit row)
+
+-- x^6 + x^4 + x^3 + 1
+abbrev pub six : List Bool
+six = lower 6 (6 ∷ 4 ∷ 3 ∷ 0 ∷ [])
+
+-- the check over the last n bits of x
+unfoldable pub check : ℕ → ℕ → ℕ
+check n x = number (checkOf six (bits n x))
+
 -- a header: its fields, then the check over them
 abbrev pub withCheck : ℕ → ℕ → ℕ
 withCheck n x = x * 64 + check n x
@@ -52,14 +74,3 @@ flag widths i h = eqb (field widths i h) 1
 -- the check of a header that has n bits before it is right
 abbrev pub holds : ℕ → ℕ → Bool
 holds n h = eqb (check n (h / 64)) (h % 64)
-
--- the n bytes of a header, and the header that bytes are; a byte is a field of eight bits
-abbrev pub bytesOf : ℕ → ℕ → List ℕ
-bytesOf n h = fields (replicate n 8) h
-
-abbrev pub headerFrom : List ℕ → ℕ
-headerFrom bytes = packed (replicate (length bytes) 8) bytes
-
--- bytes are below 256
-abbrev pub Bytes : List ℕ → Type 0
-Bytes bytes = Fit (replicate (length bytes) 8) bytes
