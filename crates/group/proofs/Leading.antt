@@ -8,15 +8,16 @@ use borrow.Author.Tests.{leb-true}
 use lib.Dec.{eqb, leb, ltb}
 use lib.ListN.{length, take, length-append}
 use lib.Seq.{paste, take-paste, take-length, length-take-le}
+use Rattle.answers.specs.Runs.{stateLeft}
 use Rattle.group.specs.Answers.{Outcome, taken, whole, refused, outcome, GroupAfter, toldJoin}
 use Rattle.group.specs.State.{idle, keepsRule, messageFits, joinedOn, followed, joinOf}
-use Rattle.group.specs.Leading.{Message, JoinResult, Joins, joinAnswers, groupLeft, bufferLeft, joinedTo, changesNothing, joinedAfter, joinedBy, Leads}
+use Rattle.group.specs.Leading.{Message, GroupAndBuffer, JoinResult, JoinAllowed, leftBy, Joins, joinAnswers, joinedTo, changesNothing, joinedAfter, joinedBy, Leads}
 use Rattle.group.specs.declared.Group.{Group}
 use Rattle.group.specs.declared.Phase.{Phase}
 use Rattle.group.specs.declared.Phase.the-variants.{Idle, Gathering}
 use Rattle.group.specs.declared.Stepped.{Stepped}
-use Rattle.answers.proofs.Rules.{unless-elim}
-use Rattle.group.proofs.Laws.{cond-elim, rule-room}
+use Rattle.answers.proofs.Rules.{unless-elim, cond-elim}
+use Rattle.group.proofs.Laws.{rule-room}
 use Rattle.group.proofs.Joining.{is-idle}
 
 -- the data behind the bytes held
@@ -48,7 +49,7 @@ module _ (g : Group) (buffer : List ℕ) (m : Message) where
       let d = take (b .held) buffer ++ m .bytes in
       let n = front-length buffer (m .bytes) (b .held) h in
       let f = front buffer (m .bytes) (b .held) h in
-      cond-elim (Told d) (m .fields .last) _ _ (λ _. (sym n, f, ap idle e))
+      cond-elim (Told d) (m .fields .last) (λ _. (sym n, f, ap idle e))
       λ _. (sym n, ap (λ (k : ℕ). take k (paste buffer (b .held) (m .bytes) (length (m .bytes)))) n ∙ f)
 
   followed-told : (p : Phase) → g .phase ≡ p → keepsRule g ≡ true → g .held ≤ length buffer → Told (take (g .held) buffer ++ m .bytes) (followed p g (m .fields) (m .bytes) buffer)
@@ -84,47 +85,48 @@ module _ (g : Group) (buffer : List ℕ) (m : Message) where
 
 -- ---- a run of messages
 
-module _ (g : Group) (buffer joined : List ℕ) (c : Counts g buffer joined) where
+module _ (s : GroupAndBuffer) (joined : List ℕ) (c : Counts (s .group) (s .buffer) joined) where
+  abbrev number : ℕ
+  number = s .group .number
+
   -- 10, 11 and 13 leave what is counted, and an idle state counts nothing
-  counts-kept : (b : Bool) (h : Group) (after : List ℕ) → h ≡ cond b g (idle (g .number)) → after ≡ buffer → Counts h after (cond b joined [])
+  counts-kept : (b : Bool) (h : Group) (after : List ℕ) → h ≡ cond b (s .group) (idle number) → after ≡ s .buffer → Counts h after (cond b joined [])
   counts-kept true h after p q = (ap (λ (k : Group). k .held) p ∙ c .0, ap (take (length joined)) q ∙ c .1)
   counts-kept false h after p q = (ap (λ (k : Group). k .held) p, refl)
 
-  counts-after : (m : Message) (o : Outcome) (h : Group) (after : List ℕ) → Tells g buffer m (joinedTo joined m) o h after → Counts h after (joinedAfter o joined m)
+  counts-after : (m : Message) (o : Outcome) (h : Group) (after : List ℕ) → Tells (s .group) (s .buffer) m (joinedTo joined m) o h after → Counts h after (joinedAfter o joined m)
   counts-after m taken h after t = t
   counts-after m (whole n) h after t = (ap (λ (k : Group). k .held) (t .2), refl)
   counts-after m (refused n) h after t = counts-kept (changesNothing n) h after (t .0) (t .1)
 
-  counted-told : (m : Message) (r : Stepped) (after : List ℕ) → toldJoin r after ≡ joinOf g (m .fields) (m .bytes) buffer → Told g buffer m (joinedTo joined m) (toldJoin r after)
-  counted-told m r after did =
-      let held : take (g .held) buffer ≡ joined = ap (λ (k : ℕ). take k buffer) (c .0) ∙ c .1 in
-      subst (Told g buffer m (joinedTo joined m)) (sym did)
-      (subst (λ (d : List ℕ). Told g buffer m (joinedTo d m) (joinOf g (m .fields) (m .bytes) buffer)) held (told g buffer m))
+  counted-told : (m : Message) (j : JoinResult) → JoinAllowed s m j → Told (s .group) (s .buffer) m (joinedTo joined m) (toldJoin (j .stepped) (j .buffer))
+  counted-told m j did =
+      let held : take (s .group .held) (s .buffer) ≡ joined = ap (λ (k : ℕ). take k (s .buffer)) (c .0) ∙ c .1 in
+      subst (Told (s .group) (s .buffer) m (joinedTo joined m)) (sym did) (rw (← held) (told (s .group) (s .buffer) m))
 
-  leads : Leads g buffer joined
+  leads : Leads s joined
   leads =
       record {
         counted = c .0;
         begins = c .1;
-        completed = λ m r after n did e.
-            let t = subst (λ (o : Outcome). Tells g buffer m (joinedTo joined m) o (r .group) after) e (counted-told m r after did) in
+        completed = λ m j n did e.
+            let t = subst (λ (o : Outcome). Tells (s .group) (s .buffer) m (joinedTo joined m) o (j .stepped .group) (j .buffer)) e (counted-told m j did) in
             (t .0, t .1);
       }
 
-run-counts : (g : Group) (buffer : List ℕ) (messages : List Message) (joins : List JoinResult) (joined : List ℕ) → Joins g buffer messages joins → Counts g buffer joined
-    → Counts (groupLeft g joins) (bufferLeft buffer joins) (joinedBy (joinAnswers joins) joined messages)
-run-counts g buffer [] [] joined did c = c
-run-counts g buffer [] (j ∷ joins) joined did c = absurd did
-run-counts g buffer (m ∷ messages) [] joined did c = absurd did
-run-counts g buffer (m ∷ messages) (j ∷ joins) joined did c =
-    let r = j .stepped in
-    let o = outcome (r .answer) in
-    run-counts (r .group) (j .buffer) messages joins (joinedAfter o joined m) (did .1)
-    (counts-after g buffer joined c m o (r .group) (j .buffer) (counted-told g buffer joined c m r (j .buffer) (did .0)))
+run-counts : (s : GroupAndBuffer) (messages : List Message) (joins : List JoinResult) (joined : List ℕ) → Joins s messages joins → Counts (s .group) (s .buffer) joined
+    → Leads (stateLeft leftBy s joins) (joinedBy (joinAnswers joins) joined messages)
+run-counts s [] [] joined did c = leads s joined c
+run-counts s [] (j ∷ joins) joined did c = absurd did
+run-counts s (m ∷ messages) [] joined did c = absurd did
+run-counts s (m ∷ messages) (j ∷ joins) joined did c =
+    let o = outcome (j .stepped .answer) in
+    run-counts (leftBy j) messages joins (joinedAfter o joined m) (did .1)
+    (counts-after s joined c m o (j .stepped .group) (j .buffer) (counted-told s joined c m j (did .0)))
 
 -- After any messages whatever, from a state whose counted bytes the buffer has, as it has those of a fresh one, which counts none.
-pub leading-bytes : (g : Group) (buffer : List ℕ) (messages : List Message) (joins : List JoinResult) → Joins g buffer messages joins → g .held ≤ length buffer
-    → Leads (groupLeft g joins) (bufferLeft buffer joins) (joinedBy (joinAnswers joins) (take (g .held) buffer) messages)
-leading-bytes g buffer messages joins did h =
-    let n = length-take-le (g .held) buffer h in
-    leads _ _ _ (run-counts g buffer messages joins (take (g .held) buffer) did (sym n, ap (λ (k : ℕ). take k buffer) n))
+pub leading-bytes : (s : GroupAndBuffer) (messages : List Message) (joins : List JoinResult) → Joins s messages joins → s .group .held ≤ length (s .buffer)
+    → Leads (stateLeft leftBy s joins) (joinedBy (joinAnswers joins) (take (s .group .held) (s .buffer)) messages)
+leading-bytes s messages joins did h =
+    let n = length-take-le (s .group .held) (s .buffer) h in
+    run-counts s messages joins (take (s .group .held) (s .buffer)) did (sym n, ap (λ (k : ℕ). take k (s .buffer)) n)

@@ -8,13 +8,13 @@ use borrow.Author.Tests.{le-leb, leb-true, ltb-true}
 use lib.Dec.{eqb, leb, ltb}
 use lib.ListN.{length}
 use Rattle.channel.specs.declared.Fields.{Fields}
-use Rattle.answers.proofs.Rules.{unless-elim}
+use Rattle.answers.proofs.Rules.{unless-elim, cond-elim}
 use Rattle.group.specs.Answers.{GroupAfter, Made}
 use Rattle.group.specs.State.{groupWith, idle, newOf, phaseHolds, keepsRule, messageFits, joinedOn, followed, joinOf}
 use Rattle.group.specs.declared.Group.{Group}
 use Rattle.group.specs.declared.Phase.{Phase}
 use Rattle.group.specs.declared.Phase.the-variants.{Idle, Gathering}
-use Rattle.group.proofs.Laws.{cond-elim, rule-room, within-bounds}
+use Rattle.group.proofs.Laws.{rule-room, within-bounds}
 
 pub rule-number : (g : Group) → keepsRule g ≡ true → g .number ≤ 16383
 unfolding keepsRule
@@ -42,7 +42,7 @@ module _ (m : Fields) (s buffer : List ℕ) (fits : messageFits m (length s) ≡
   unfolding joinedOn
   joined-kept g hn hh hm =
       let b = within-bounds m (length s) fits in
-      cond-elim Kept (m .last) _ _ (λ _. idle-rule (g .number) hn)
+      cond-elim Kept (m .last) (λ _. idle-rule (g .number) hn)
       λ _. gathering-rule (g .number) (g .held) (g .messages) (length s) (m .ci) hn hh hm (b .0) (b .1)
 
   followed-kept : (p : Phase) (g : Group) → keepsRule g ≡ true → Kept (followed p g m s buffer)
@@ -61,7 +61,7 @@ rule-kept g m s buffer rule =
     unless-elim Kept (messageFits m (length s)) _ _ rule λ fits.
     unless-elim Kept (eqb (m .number) (g .number)) _ _ rule λ _.
     unless-elim Kept (not (m .command)) _ _ rule λ _.
-    cond-elim Kept (m .first) _ _ (λ _. joined-kept m s buffer fits (idle (g .number)) (rule-number g rule) (omega arith) (omega arith)) λ _.
+    cond-elim Kept (m .first) (λ _. joined-kept m s buffer fits (idle (g .number)) (rule-number g rule) (omega arith) (omega arith)) λ _.
     followed-kept m s buffer fits (g .phase) g rule
 
 pub new-rule : (number : ℕ) → keepsRule (newOf number .group) ≡ true

@@ -3,9 +3,10 @@
 use Prim.Native.Nat.{ℕ}
 use mathlib.Core.Path.{_≡_}
 use mathlib.Core.Bool.{Bool, cond, _||_}
-use mathlib.Core.List.{List, [], _∷_, _++_}
+use mathlib.Core.List.{List, [], _∷_, _++_, map}
 use lib.Dec.{eqb}
 use lib.ListN.{length, take}
+use Rattle.answers.specs.Runs.{Run}
 use Rattle.channel.specs.declared.Fields.{Fields}
 use Rattle.group.specs.Answers.{Outcome, taken, whole, refused, outcome, toldJoin}
 use Rattle.group.specs.State.{joinOf}
@@ -17,31 +18,29 @@ pub record Message : Type 0 where
   pub fields : Fields
   pub bytes : List ℕ
 
+-- a group state and the buffer lent with it
+pub record GroupAndBuffer : Type 0 where
+  pub group : Group
+  pub buffer : List ℕ
+
 -- what `Group::join` gives back, and the buffer as it leaves it
 pub record JoinResult : Type 0 where
   pub stepped : Stepped
   pub buffer : List ℕ
 
--- what it gives for message after message, each time from the state and with the buffer that it left
-abbrev pub Joins : Group → List ℕ → List Message → List JoinResult → Type 0
-Joins g buffer [] [] = Unit
-Joins g buffer [] (j ∷ joins) = ⊥
-Joins g buffer (m ∷ messages) [] = ⊥
-Joins g buffer (m ∷ messages) (j ∷ joins) =
-    (toldJoin (j .stepped) (j .buffer) ≡ joinOf g (m .fields) (m .bytes) buffer) × Joins (j .stepped .group) (j .buffer) messages joins
+-- what its contract allows for a message
+abbrev pub JoinAllowed : GroupAndBuffer → Message → JoinResult → Type 0
+JoinAllowed s m j = toldJoin (j .stepped) (j .buffer) ≡ joinOf (s .group) (m .fields) (m .bytes) (s .buffer)
 
--- every answer, and the state and the buffer at the end
+-- for message after message, each time from the state and with the buffer that it left
+abbrev pub leftBy : JoinResult → GroupAndBuffer
+leftBy j = record { group = j .stepped .group; buffer = j .buffer }
+
+abbrev pub Joins : GroupAndBuffer → List Message → List JoinResult → Type 0
+Joins = Run JoinAllowed leftBy
+
 abbrev pub joinAnswers : List JoinResult → List Outcome
-joinAnswers [] = []
-joinAnswers (j ∷ joins) = outcome (j .stepped .answer) ∷ joinAnswers joins
-
-abbrev pub groupLeft : Group → List JoinResult → Group
-groupLeft g [] = g
-groupLeft g (j ∷ joins) = groupLeft (j .stepped .group) joins
-
-abbrev pub bufferLeft : List ℕ → List JoinResult → List ℕ
-bufferLeft buffer [] = buffer
-bufferLeft buffer (j ∷ joins) = bufferLeft (j .buffer) joins
+joinAnswers joins = map (λ j. outcome (j .stepped .answer)) joins
 
 -- the joined data with that of a message; with a First whatever was gathered is dropped
 abbrev pub joinedTo : List ℕ → Message → List ℕ
@@ -66,8 +65,8 @@ joinedBy (o ∷ answers) joined (m ∷ messages) = joinedBy answers (joinedAfter
 
 -- The leading bytes are the joined data: the state counts as many bytes, and the buffer begins with them. And where one message more is answered
 -- "group", its length is that of the joined data with its own (with a First its own alone), which the buffer then begins with.
-pub record Leads (g : Group) (buffer joined : List ℕ) : Type 0 where
-  pub counted : g .held ≡ length joined
-  pub begins : take (length joined) buffer ≡ joined
-  pub completed : (m : Message) (r : Stepped) (after : List ℕ) (n : ℕ) → toldJoin r after ≡ joinOf g (m .fields) (m .bytes) buffer → outcome (r .answer) ≡ whole n
-      → (n ≡ length (joinedTo joined m)) × (take n after ≡ joinedTo joined m)
+pub record Leads (s : GroupAndBuffer) (joined : List ℕ) : Type 0 where
+  pub counted : s .group .held ≡ length joined
+  pub begins : take (length joined) (s .buffer) ≡ joined
+  pub completed : (m : Message) (j : JoinResult) (n : ℕ) → JoinAllowed s m j → outcome (j .stepped .answer) ≡ whole n
+      → (n ≡ length (joinedTo joined m)) × (take n (j .buffer) ≡ joinedTo joined m)
