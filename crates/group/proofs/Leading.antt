@@ -2,21 +2,21 @@
 use Prim.Native.Nat.{ℕ, _+_, _%_, _≤_}
 use mathlib.Core.Path.{_≡_, refl, sym, ap, _∙_, subst}
 use mathlib.Core.Bool.{Bool, true, false, not, cond}
-use mathlib.Core.List.{List, [], _∷_, _++_}
+use mathlib.Core.List.{List, [], _∷_, _++_, map}
 use native.Mathlib.Omega.{arith}
 use borrow.Author.Tests.{leb-true}
 use lib.Dec.{eqb, leb, ltb}
 use lib.ListN.{length, take, length-append}
 use lib.Seq.{paste, take-paste, take-length, length-take-le}
 use Rattle.answers.specs.Runs.{stateLeft}
-use Rattle.group.specs.Answers.{Outcome, taken, whole, refused, outcome, GroupAfter, toldJoin}
+use Rattle.group.specs.Answers.{Outcome, taken, whole, refused, GroupAfter}
 use Rattle.group.specs.State.{idle, keepsRule, messageFits, joinedOn, followed, joinOf}
-use Rattle.group.specs.Leading.{Message, GroupAndBuffer, JoinResult, JoinAllowed, leftBy, Joins, joinAnswers, joinedTo, changesNothing, joinedAfter, joinedBy, Leads}
+use Rattle.group.specs.Leading.{Message, GroupAndBuffer, JoinResult, toldResult, joinMessage, leftBy, Joins, joinedTo, changesNothing, joinedAfter, joinedBy, Leads}
 use Rattle.group.specs.declared.Group.{Group}
 use Rattle.group.specs.declared.Phase.{Phase}
 use Rattle.group.specs.declared.Phase.the-variants.{Idle, Gathering}
-use Rattle.group.specs.declared.Stepped.{Stepped}
 use Rattle.answers.proofs.Rules.{unless-elim, cond-elim}
+use Rattle.answers.proofs.Runs.{runOf, run-told}
 use Rattle.group.proofs.Laws.{rule-room}
 use Rattle.group.proofs.Joining.{is-idle}
 
@@ -30,18 +30,24 @@ front-length buffer s held h = length-append (take held buffer) s ∙ ap (λ (n 
 -- ---- one message
 
 -- the state counts these bytes, and the buffer begins with them
-abbrev Counts : Group → List ℕ → List ℕ → Type 0
-Counts g buffer joined = (g .held ≡ length joined) × (take (length joined) buffer ≡ joined)
+abbrev Counts : GroupAndBuffer → List ℕ → Type 0
+Counts s joined = (s .group .held ≡ length joined) × (take (length joined) (s .buffer) ≡ joined)
 
-module _ (g : Group) (buffer : List ℕ) (m : Message) where
+module _ (s : GroupAndBuffer) (m : Message) where
+  abbrev g : Group
+  g = s .group
+
+  abbrev buffer : List ℕ
+  buffer = s .buffer
+
   -- what each answer tells of the state and of the buffer left, with the data joined on
-  abbrev Tells : List ℕ → Outcome → Group → List ℕ → Type 0
-  Tells joined taken h after = Counts h after joined
-  Tells joined (whole n) h after = (n ≡ length joined) × (take n after ≡ joined) × (h ≡ idle (g .number))
-  Tells joined (refused n) h after = (h ≡ cond (changesNothing n) g (idle (g .number))) × (after ≡ buffer)
+  abbrev Tells : List ℕ → Outcome → GroupAndBuffer → Type 0
+  Tells joined taken left = Counts left joined
+  Tells joined (whole n) left = (n ≡ length joined) × (take n (left .buffer) ≡ joined) × (left .group ≡ idle (g .number))
+  Tells joined (refused n) left = (left .group ≡ cond (changesNothing n) g (idle (g .number))) × (left .buffer ≡ buffer)
 
   abbrev Told : List ℕ → GroupAfter → Type 0
-  Told joined l = Tells joined (l .answer) (l .group) (l .buffer)
+  Told joined t = Tells joined (t .answer) (leftBy t)
 
   joined-told : (b : Group) → b .number ≡ g .number → b .held ≤ length buffer → Told (take (b .held) buffer ++ m .bytes) (joinedOn b (m .fields) (m .bytes) buffer)
   unfolding joinedOn
@@ -60,7 +66,7 @@ module _ (g : Group) (buffer : List ℕ) (m : Message) where
       unless-elim (Told d) (ltb (g .messages) 15) _ _ (refl, refl) λ _.
       joined-told g refl h
 
-  told : Told (joinedTo (take (g .held) buffer) m) (joinOf g (m .fields) (m .bytes) buffer)
+  told : Told (joinedTo (take (g .held) buffer) m) (joinMessage s m)
   unfolding joinOf
   told =
       let d = joinedTo (take (g .held) buffer) m in
@@ -77,32 +83,29 @@ module _ (g : Group) (buffer : List ℕ) (m : Message) where
       by-first false rule h = followed-told (g .phase) refl rule h
 
   -- A REFUSAL CHANGES NO BYTE; 10, 11 AND 13 LEAVE THE STATE AS IT STOOD, AND ANY OTHER IDLE
-  pub refused-kept : (r : Stepped) (after : List ℕ) (n : ℕ) → toldJoin r after ≡ joinOf g (m .fields) (m .bytes) buffer → outcome (r .answer) ≡ refused n
-      → (r .group ≡ cond (changesNothing n) g (idle (g .number))) × (after ≡ buffer)
-  refused-kept r after n did e =
+  pub refused-kept : (j : JoinResult) (n : ℕ) → toldResult j ≡ joinMessage s m → toldResult j .answer ≡ refused n
+      → (j .stepped .group ≡ cond (changesNothing n) (s .group) (idle (s .group .number))) × (j .buffer ≡ s .buffer)
+  refused-kept j n did e =
       let d = joinedTo (take (g .held) buffer) m in
-      subst (λ (o : Outcome). Tells d o (r .group) after) e (subst (Told d) (sym did) told)
+      subst (λ (o : Outcome). Tells d o (leftBy (toldResult j))) e (subst (Told d) (sym did) told)
 
 -- ---- a run of messages
 
-module _ (s : GroupAndBuffer) (joined : List ℕ) (c : Counts (s .group) (s .buffer) joined) where
-  abbrev number : ℕ
-  number = s .group .number
-
+module _ (s : GroupAndBuffer) (joined : List ℕ) (c : Counts s joined) where
   -- 10, 11 and 13 leave what is counted, and an idle state counts nothing
-  counts-kept : (b : Bool) (h : Group) (after : List ℕ) → h ≡ cond b (s .group) (idle number) → after ≡ s .buffer → Counts h after (cond b joined [])
-  counts-kept true h after p q = (ap (λ (k : Group). k .held) p ∙ c .0, ap (take (length joined)) q ∙ c .1)
-  counts-kept false h after p q = (ap (λ (k : Group). k .held) p, refl)
+  counts-kept : (b : Bool) (left : GroupAndBuffer) → left .group ≡ cond b (s .group) (idle (s .group .number)) → left .buffer ≡ s .buffer → Counts left (cond b joined [])
+  counts-kept true left p q = (ap (λ (g : Group). g .held) p ∙ c .0, ap (take (length joined)) q ∙ c .1)
+  counts-kept false left p q = (ap (λ (g : Group). g .held) p, refl)
 
-  counts-after : (m : Message) (o : Outcome) (h : Group) (after : List ℕ) → Tells (s .group) (s .buffer) m (joinedTo joined m) o h after → Counts h after (joinedAfter o joined m)
-  counts-after m taken h after t = t
-  counts-after m (whole n) h after t = (ap (λ (k : Group). k .held) (t .2), refl)
-  counts-after m (refused n) h after t = counts-kept (changesNothing n) h after (t .0) (t .1)
+  counts-after : (m : Message) (o : Outcome) (left : GroupAndBuffer) → Tells s m (joinedTo joined m) o left → Counts left (joinedAfter o joined m)
+  counts-after m taken left t = t
+  counts-after m (whole n) left t = (ap (λ (g : Group). g .held) (t .2), refl)
+  counts-after m (refused n) left t = counts-kept (changesNothing n) left (t .0) (t .1)
 
-  counted-told : (m : Message) (j : JoinResult) → JoinAllowed s m j → Told (s .group) (s .buffer) m (joinedTo joined m) (toldJoin (j .stepped) (j .buffer))
-  counted-told m j did =
+  counted-told : (m : Message) → Told s m (joinedTo joined m) (joinMessage s m)
+  counted-told m =
       let held : take (s .group .held) (s .buffer) ≡ joined = ap (λ (k : ℕ). take k (s .buffer)) (c .0) ∙ c .1 in
-      subst (Told (s .group) (s .buffer) m (joinedTo joined m)) (sym did) (rw (← held) (told (s .group) (s .buffer) m))
+      rw (← held) (told s m)
 
   leads : Leads s joined
   leads =
@@ -110,23 +113,23 @@ module _ (s : GroupAndBuffer) (joined : List ℕ) (c : Counts (s .group) (s .buf
         counted = c .0;
         begins = c .1;
         completed = λ m j n did e.
-            let t = subst (λ (o : Outcome). Tells (s .group) (s .buffer) m (joinedTo joined m) o (j .stepped .group) (j .buffer)) e (counted-told m j did) in
+            let d = joinedTo joined m in
+            let t = subst (λ (o : Outcome). Tells s m d o (leftBy (toldResult j))) e (subst (Told s m d) (sym did) (counted-told m)) in
             (t .0, t .1);
       }
 
-run-counts : (s : GroupAndBuffer) (messages : List Message) (joins : List JoinResult) (joined : List ℕ) → Joins s messages joins → Counts (s .group) (s .buffer) joined
-    → Leads (stateLeft leftBy s joins) (joinedBy (joinAnswers joins) joined messages)
-run-counts s [] [] joined did c = leads s joined c
-run-counts s [] (j ∷ joins) joined did c = absurd did
-run-counts s (m ∷ messages) [] joined did c = absurd did
-run-counts s (m ∷ messages) (j ∷ joins) joined did c =
-    let o = outcome (j .stepped .answer) in
-    run-counts (leftBy j) messages joins (joinedAfter o joined m) (did .1)
-    (counts-after s joined c m o (j .stepped .group) (j .buffer) (counted-told s joined c m j (did .0)))
+run-leads : (s : GroupAndBuffer) (messages : List Message) (joined : List ℕ) → Counts s joined
+    → let told = runOf joinMessage leftBy s messages in Leads (stateLeft leftBy s told) (joinedBy told joined messages)
+run-leads s [] joined c = leads s joined c
+run-leads s (m ∷ messages) joined c =
+    let t = joinMessage s m in
+    run-leads (leftBy t) messages (joinedAfter (t .answer) joined m) (counts-after s joined c m (t .answer) (leftBy t) (counted-told s joined c m))
 
 -- After any messages whatever, from a state whose counted bytes the buffer has, as it has those of a fresh one, which counts none.
 pub leading-bytes : (s : GroupAndBuffer) (messages : List Message) (joins : List JoinResult) → Joins s messages joins → s .group .held ≤ length (s .buffer)
-    → Leads (stateLeft leftBy s joins) (joinedBy (joinAnswers joins) (take (s .group .held) (s .buffer)) messages)
+    → let told = map toldResult joins in Leads (stateLeft leftBy s told) (joinedBy told (take (s .group .held) (s .buffer)) messages)
 leading-bytes s messages joins did h =
     let n = length-take-le (s .group .held) (s .buffer) h in
-    run-counts s messages joins (take (s .group .held) (s .buffer)) did (sym n, ap (λ (k : ℕ). take k (s .buffer)) n)
+    subst (λ (told : List GroupAfter). Leads (stateLeft leftBy s told) (joinedBy told (take (s .group .held) (s .buffer)) messages))
+    (sym (run-told joinMessage leftBy toldResult s messages joins did))
+    (run-leads s messages (take (s .group .held) (s .buffer)) (sym n, ap (λ (k : ℕ). take k (s .buffer)) n))

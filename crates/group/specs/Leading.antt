@@ -3,12 +3,12 @@
 use Prim.Native.Nat.{ℕ}
 use mathlib.Core.Path.{_≡_}
 use mathlib.Core.Bool.{Bool, cond, _||_}
-use mathlib.Core.List.{List, [], _∷_, _++_, map}
+use mathlib.Core.List.{List, [], _∷_, _++_}
 use lib.Dec.{eqb}
 use lib.ListN.{length, take}
 use Rattle.answers.specs.Runs.{Run}
 use Rattle.channel.specs.declared.Fields.{Fields}
-use Rattle.group.specs.Answers.{Outcome, taken, whole, refused, outcome, toldJoin}
+use Rattle.group.specs.Answers.{Outcome, taken, whole, refused, GroupAfter, toldJoin}
 use Rattle.group.specs.State.{joinOf}
 use Rattle.group.specs.declared.Group.{Group}
 use Rattle.group.specs.declared.Stepped.{Stepped}
@@ -28,19 +28,18 @@ pub record JoinResult : Type 0 where
   pub stepped : Stepped
   pub buffer : List ℕ
 
--- what its contract allows for a message
-abbrev pub JoinAllowed : GroupAndBuffer → Message → JoinResult → Type 0
-JoinAllowed s m j = toldJoin (j .stepped) (j .buffer) ≡ joinOf (s .group) (m .fields) (m .bytes) (s .buffer)
+abbrev pub toldResult : JoinResult → GroupAfter
+toldResult j = toldJoin (j .stepped) (j .buffer)
 
--- for message after message, each time from the state and with the buffer that it left
-abbrev pub leftBy : JoinResult → GroupAndBuffer
-leftBy j = record { group = j .stepped .group; buffer = j .buffer }
+-- what it gives for message after message, each time from the state and with the buffer that it left
+abbrev pub joinMessage : GroupAndBuffer → Message → GroupAfter
+joinMessage s m = joinOf (s .group) (m .fields) (m .bytes) (s .buffer)
+
+abbrev pub leftBy : GroupAfter → GroupAndBuffer
+leftBy t = record { group = t .group; buffer = t .buffer }
 
 abbrev pub Joins : GroupAndBuffer → List Message → List JoinResult → Type 0
-Joins = Run JoinAllowed leftBy
-
-abbrev pub joinAnswers : List JoinResult → List Outcome
-joinAnswers joins = map (λ j. outcome (j .stepped .answer)) joins
+Joins = Run (λ s m j. toldResult j ≡ joinMessage s m) (λ j. leftBy (toldResult j))
 
 -- the joined data with that of a message; with a First whatever was gathered is dropped
 abbrev pub joinedTo : List ℕ → Message → List ℕ
@@ -57,16 +56,16 @@ joinedAfter taken joined m = joinedTo joined m
 joinedAfter (whole n) joined m = []
 joinedAfter (refused n) joined m = cond (changesNothing n) joined []
 
--- and after a run of messages, by their answers
-abbrev pub joinedBy : List Outcome → List ℕ → List Message → List ℕ
+-- and after a run of messages, by what is told of each
+abbrev pub joinedBy : List GroupAfter → List ℕ → List Message → List ℕ
 joinedBy [] joined messages = joined
-joinedBy (o ∷ answers) joined [] = joined
-joinedBy (o ∷ answers) joined (m ∷ messages) = joinedBy answers (joinedAfter o joined m) messages
+joinedBy (t ∷ told) joined [] = joined
+joinedBy (t ∷ told) joined (m ∷ messages) = joinedBy told (joinedAfter (t .answer) joined m) messages
 
 -- The leading bytes are the joined data: the state counts as many bytes, and the buffer begins with them. And where one message more is answered
 -- "group", its length is that of the joined data with its own (with a First its own alone), which the buffer then begins with.
 pub record Leads (s : GroupAndBuffer) (joined : List ℕ) : Type 0 where
   pub counted : s .group .held ≡ length joined
   pub begins : take (length joined) (s .buffer) ≡ joined
-  pub completed : (m : Message) (j : JoinResult) (n : ℕ) → JoinAllowed s m j → outcome (j .stepped .answer) ≡ whole n
+  pub completed : (m : Message) (j : JoinResult) (n : ℕ) → toldResult j ≡ joinMessage s m → toldResult j .answer ≡ whole n
       → (n ≡ length (joinedTo joined m)) × (take n (j .buffer) ≡ joinedTo joined m)
