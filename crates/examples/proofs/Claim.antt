@@ -6,8 +6,8 @@ use mathlib.Core.Logic.{inl, inr}
 use Prim.Native.Nat.{ℕ, zero, suc, _+_, _*_, _≤_}
 use native.Mathlib.Omega.{arith}
 use borrow.Author.Tests.{le-leb, lt-leb}
-use lib.Dec.{T, eqb, leb, ltb, ltb→lt, lit≤, lit<}
-use lib.Ieee.Fits.{and-l, and-r}
+use lib.Dec.{T, eqb, leb, lit≤}
+use lib.Ieee.Fits.{and-r}
 use lib.ListN.{length, getD, replicate}
 use lib.Pow.{areBytes}
 use Rattle.answers.specs.Rules.{unless}
