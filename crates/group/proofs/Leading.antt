@@ -33,13 +33,7 @@ front-length buffer s held h = length-append (take held buffer) s ∙ ap (λ (n 
 abbrev Counts : GroupAndBuffer → List ℕ → Type 0
 Counts s joined = (s .group .held ≡ length joined) × (take (length joined) (s .buffer) ≡ joined)
 
-module _ (s : GroupAndBuffer) (m : Message) where
-  abbrev g : Group
-  g = s .group
-
-  abbrev buffer : List ℕ
-  buffer = s .buffer
-
+module _ (g : Group) (buffer : List ℕ) (m : Message) where
   -- what each answer tells of the state and of the buffer left, with the data joined on
   abbrev Tells : List ℕ → Outcome → GroupAndBuffer → Type 0
   Tells joined taken left = Counts left joined
@@ -66,7 +60,7 @@ module _ (s : GroupAndBuffer) (m : Message) where
       unless-elim (Told d) (ltb (g .messages) 15) _ _ (refl, refl) λ _.
       joined-told g refl h
 
-  told : Told (joinedTo (take (g .held) buffer) m) (joinMessage s m)
+  told : Told (joinedTo (take (g .held) buffer) m) (joinOf g (m .fields) (m .bytes) buffer)
   unfolding joinOf
   told =
       let d = joinedTo (take (g .held) buffer) m in
@@ -83,8 +77,8 @@ module _ (s : GroupAndBuffer) (m : Message) where
       by-first false rule h = followed-told (g .phase) refl rule h
 
   -- A REFUSAL CHANGES NO BYTE; 10, 11 AND 13 LEAVE THE STATE AS IT STOOD, AND ANY OTHER IDLE
-  pub refused-kept : (j : JoinResult) (n : ℕ) → toldResult j ≡ joinMessage s m → toldResult j .answer ≡ refused n
-      → (j .stepped .group ≡ cond (changesNothing n) (s .group) (idle (s .group .number))) × (j .buffer ≡ s .buffer)
+  pub refused-kept : (j : JoinResult) (n : ℕ) → toldResult j ≡ joinOf g (m .fields) (m .bytes) buffer → toldResult j .answer ≡ refused n
+      → (j .stepped .group ≡ cond (changesNothing n) g (idle (g .number))) × (j .buffer ≡ buffer)
   refused-kept j n did e =
       let d = joinedTo (take (g .held) buffer) m in
       subst (λ (o : Outcome). Tells d o (leftBy (toldResult j))) e (subst (Told d) (sym did) told)
@@ -97,15 +91,15 @@ module _ (s : GroupAndBuffer) (joined : List ℕ) (c : Counts s joined) where
   counts-kept true left p q = (ap (λ (g : Group). g .held) p ∙ c .0, ap (take (length joined)) q ∙ c .1)
   counts-kept false left p q = (ap (λ (g : Group). g .held) p, refl)
 
-  counts-after : (m : Message) (o : Outcome) (left : GroupAndBuffer) → Tells s m (joinedTo joined m) o left → Counts left (joinedAfter o joined m)
+  counts-after : (m : Message) (o : Outcome) (left : GroupAndBuffer) → Tells (s .group) (s .buffer) m (joinedTo joined m) o left → Counts left (joinedAfter o joined m)
   counts-after m taken left t = t
   counts-after m (whole n) left t = (ap (λ (g : Group). g .held) (t .2), refl)
   counts-after m (refused n) left t = counts-kept (changesNothing n) left (t .0) (t .1)
 
-  counted-told : (m : Message) → Told s m (joinedTo joined m) (joinMessage s m)
+  counted-told : (m : Message) → Told (s .group) (s .buffer) m (joinedTo joined m) (joinMessage s m)
   counted-told m =
       let held : take (s .group .held) (s .buffer) ≡ joined = ap (λ (k : ℕ). take k (s .buffer)) (c .0) ∙ c .1 in
-      rw (← held) (told s m)
+      rw (← held) (told (s .group) (s .buffer) m)
 
   leads : Leads s joined
   leads =
@@ -114,7 +108,7 @@ module _ (s : GroupAndBuffer) (joined : List ℕ) (c : Counts s joined) where
         begins = c .1;
         completed = λ m j n did e.
             let d = joinedTo joined m in
-            let t = subst (λ (o : Outcome). Tells s m d o (leftBy (toldResult j))) e (subst (Told s m d) (sym did) (counted-told m)) in
+            let t = subst (λ (o : Outcome). Tells (s .group) (s .buffer) m d o (leftBy (toldResult j))) e (subst (Told (s .group) (s .buffer) m d) (sym did) (counted-told m)) in
             (t .0, t .1);
       }
 

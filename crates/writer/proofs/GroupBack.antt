@@ -34,7 +34,7 @@ use Rattle.writer.specs.Message.{headerFor, messageBlocks, flat, LeavesB
 use Rattle.writer.specs.Group.{groupFields, messagesOf, blocksOf, groupBlocks, writeGroupOf}
 use Rattle.writer.specs.declared.Series.{Series}
 use Rattle.writer.specs.declared.Wrote.{Wrote}
-use Rattle.writer.proofs.Runs.{after, stepsOf, steps-told, run-elim}
+use Rattle.writer.proofs.Runs.{leaves, stepsOf, steps-told, run-elim}
 use Rattle.writer.proofs.ReadBack.{blocks-back}
 use Rattle.writer.proofs.Laws.{within-widths, within-true}
 use Rattle.writer.proofs.Writing.{flat-append}
@@ -79,12 +79,12 @@ module _ (number ri : ℕ) (di : Bool) (small-number : number ≤ 16383) (small-
       one-read (blocksFor (sizeOf (leb 512 number) + length part) - 1) (headerFor m (length part)) c B (R .answers) ∙ ap (λ (d : List ℕ). record { fields = m; bytes = d } ∷ []) (R .stands) in
       let Read : ℕ → Type 0 = λ i. let blocks = B ++ blocksOf di i messages in AllRead (record { fields = m; bytes = part } ∷ messages) (length blocks) c (stepsOf c blocks) in
       subst Read (R .expected)
-      (rw (run-append stepOf after c B G, length-append B G)
+      (rw (run-append stepOf leaves c B G, length-append B G)
       (record {
         answers = map-append _ T U ∙ ap₂ (λ (xs ys : List channel.Outcome). xs ++ ys) (R .answers) (ih .answers);
         given = messages-append T U ∙ ap₂ (λ (xs ys : List Message). xs ++ ys) one (ih .given);
-        listens = rw (left-append after c T U) (ih .listens);
-        expected = ap (λ (d : Channel). d .expected) (left-append after c T U) ∙ ih .expected ∙ omega (arith, R .expected);
+        listens = rw (left-append leaves c T U) (ih .listens);
+        expected = ap (λ (d : Channel). d .expected) (left-append leaves c T U) ∙ ih .expected ∙ omega (arith, R .expected);
       }))
 
 -- ---- the group state: messages to the group

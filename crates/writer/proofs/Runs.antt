@@ -12,15 +12,15 @@ use Rattle.channel.specs.declared.Header.{Header}
 use Rattle.channel.specs.declared.Stepped.{Stepped}
 use Rattle.writer.specs.Reading.{Steps, answersIn}
 
-abbrev pub after : ChannelAfter → Channel
-after t = t .channel
+abbrev pub leaves : ChannelAfter → Channel
+leaves t = t .channel
 
 abbrev pub stepsOf : Channel → List (List ℕ) → List ChannelAfter
-stepsOf = runOf stepOf after
+stepsOf = runOf stepOf leaves
 
 -- any outcomes of the contract are told as this run
 pub steps-told : (c : Channel) (blocks : List (List ℕ)) (steps : List Stepped) → Steps c blocks steps → map toldStep steps ≡ stepsOf c blocks
-steps-told = run-told stepOf after toldStep
+steps-told = run-told stepOf leaves toldStep
 
 -- a run that is answered "taken" .. "message", block by block
 no-blocks : (c : Channel) (blocks : List (List ℕ)) → answersIn (stepsOf c blocks) ≡ [] → blocks ≡ []
