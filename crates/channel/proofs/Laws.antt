@@ -1,7 +1,7 @@
 -- Laws that several proofs of this crate cite. Assumes nothing.
 use Prim.Native.Nat.{ℕ, _+_, _-_, _%_, _^_, _≤_, _<_}
 use mathlib.Core.Path.{_≡_, sym, ap, _∙_}
-use mathlib.Core.Bool.{true, _&&_, and-eq-true-iff}
+use mathlib.Core.Bool.{Bool, true, false, _&&_, and-eq-true-iff}
 use mathlib.Core.List.{List, _++_, append-assoc}
 use native.Mathlib.Omega.{arith}
 use borrow.Author.Tests.{eqb-true, leb-true}
@@ -12,6 +12,7 @@ use lib.Seq.{paste, drop-drop}
 use Rattle.gf2.proofs.Lists.{tail-lent, tail-back}
 use Rattle.header.specs.Check.{check}
 use Rattle.header.proofs.Bits.{check-wider}
+use Rattle.channel.specs.Layer4.{sizeOf}
 use Rattle.channel.specs.State.{keepsRule, phaseHolds}
 use Rattle.channel.specs.declared.Channel.{Channel}
 use Rattle.channel.specs.declared.Phase.{Phase}
@@ -35,6 +36,11 @@ module _ (c : Channel) (e : keepsRule c ≡ true) where
 
   pub rule-sc : c .expected < 16
   rule-sc = let h = leb-true (c .expected) 15 (parts .0) in omega arith
+
+-- a header has four or five bytes
+pub size-room : (ext : Bool) → (sizeOf ext ≤ 5) × (4 ≤ sizeOf ext)
+size-room true = omega arith
+size-room false = omega arith
 
 -- the check over all 64 bits is that over a header's own
 pub check-at : (n x : ℕ) → n ≤ 64 → x < 2 ^ n → check 64 x ≡ check n x
