@@ -1,6 +1,6 @@
 -- Tests taken apart, and the rules of a state and of a message as bounds. Assumes nothing.
 use Prim.Native.Nat.{ℕ, _*_, _≤_}
-use mathlib.Core.Path.{_≡_, refl}
+use mathlib.Core.Path.{_≡_}
 use mathlib.Core.Bool.{Bool, true, false, cond, _&&_, and-eq-true-iff}
 use native.Mathlib.Omega.{arith}
 use borrow.Author.Tests.{eqb-true, leb-true}
@@ -12,9 +12,9 @@ use Rattle.group.specs.declared.Phase.{Phase}
 use Rattle.group.specs.declared.Phase.the-variants.{Idle, Gathering}
 
 -- what holds on both sides of a test holds of it
-pub cond-elim : {A : Type 0} (P : A → Type 0) (b : Bool) (x y : A) → (b ≡ true → P x) → (b ≡ false → P y) → P (cond b x y)
-cond-elim P true x y px py = px refl
-cond-elim P false x y px py = py refl
+pub cond-elim : {A : Type 0} (P : Bool → A → Type 0) (b : Bool) (x y : A) → P true x → P false y → P b (cond b x y)
+cond-elim P true x y px py = px
+cond-elim P false x y px py = py
 
 -- at most fifteen messages, 255 bytes for each, and a CI of two bits
 phase-room : (p : Phase) (held messages ci : ℕ) → phaseHolds p held messages ci ≡ true → (held ≤ 255 * messages) × (messages ≤ 15) × (ci ≤ 3)

@@ -2,7 +2,7 @@
 -- Assumes nothing.
 use Prim.Native.Nat.{ℕ, zero, suc, _+_, _-_, _*_, _/_, _%_, _≤_, _<_}
 use mathlib.Core.Path.{_≡_, refl, sym, ap, ap₂, _∙_, subst}
-use mathlib.Core.Bool.{Bool, true, false, _&&_}
+use mathlib.Core.Bool.{Bool, true, false, not, _||_}
 use mathlib.Core.List.{List, [], _∷_, _++_, append-assoc}
 use native.Mathlib.Numerals.{add-one}
 use native.Mathlib.Omega.{arith}
@@ -107,9 +107,8 @@ module _ (number ri : ℕ) (small-number : number ≤ 16383) (small-ri : ri ≤ 
   follows held messages ci last s buffer rule hc hd hm room =
       let g = groupWith number Gathering held messages ci in
       let m = groupFields number ri ((ci + 1) % 4) false last in
-      let rules : (keepsRule g && messageFits m (length s)) ≡ true = rw (rule, allowed ((ci + 1) % 4) (length s) false last (omega arith) hd) in
-      let ours : (eqb number number && true) ≡ true = rw (eq-eqb number number refl) in
-      sym (joining.joins g m s buffer room rules ours g refl (eq-eqb ((ci + 1) % 4) ((ci + 1) % 4) refl) hm)
+      let ours : (not (eqb number number) || false) ≡ false = rw (eq-eqb number number refl) in
+      sym (joining.joins g m s buffer room rule (allowed ((ci + 1) % 4) (length s) false last (omega arith) hd) ours refl false refl refl refl hm)
 
   record SeriesJoins (k : ℕ) (s : List ℕ) (g base : Group) (buffer : List ℕ) (joins : List JoinResult) : Type 0 where
     answers : joinAnswers joins ≡ replicate k taken ++ (whole (base .held + length s) ∷ [])
@@ -185,11 +184,10 @@ group-back x s before after w c steps g buffer joins wrote took l sc did rule sa
     let read : messagesIn steps ≡ messages = S .2 ∙ R .1 in
     let m = groupFields (x .number) (x .ri) (x .ci) true (eqb k 0) in
     let few : length (take 255 s) ≤ 255 = omega (arith, length-take 255 s) in
-    let rules : (keepsRule g && messageFits m (length (take 255 s))) ≡ true =
-    rw (rule, allowed (x .number) (x .ri) (omega arith) (omega arith) (x .ci) (length (take 255 s)) true (eqb k 0) (omega arith) few) in
-    let ours : (eqb (x .number) (g .number) && true) ≡ true = rw (eq-eqb _ _ (sym same)) in
+    let fits = allowed (x .number) (x .ri) (omega arith) (omega arith) (x .ci) (length (take 255 s)) true (eqb k 0) (omega arith) few in
+    let ours : (not (eqb (x .number) (g .number)) || false) ≡ false = rw (eq-eqb _ _ (sym same)) in
     let first : joinOf g m (take 255 s) buffer ≡ joinedOn (idle (x .number)) m (take 255 s) buffer =
-    sym (joining.joins g m (take 255 s) buffer room rules ours (idle (g .number)) refl refl (omega arith))
+    sym (joining.begins g m (take 255 s) buffer room rule fits ours refl)
     ∙ ap (λ (i : ℕ). joinedOn (idle i) m (take 255 s) buffer) same in
     let J = series-joins (x .number) (x .ri) (omega arith) (omega arith) k true (x .ci) s g (idle (x .number)) buffer joins (omega arith) (omega arith) room refl (omega arith) (omega arith) first
     (subst (λ (ms : List Message). Joins g buffer ms joins) read joined) in

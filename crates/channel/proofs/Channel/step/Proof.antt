@@ -5,7 +5,7 @@ use mathlib.Core.List.{List}
 use mathlib.Core.Path.{_≡_, sym, ap, _∙_}
 use native.Mathlib.Omega.{arith}
 use borrow.Author.Tests.{ne-eqb, not-true, not-false}
-use lib.ListN.{length, length-drop}
+use lib.ListN.{length-drop}
 use lib.Seq.{paste}
 use Rattle.gf2.proofs.Lists.{tail-lent}
 use Rattle.channel.specs.State.{keepsRule, afterJoining, stepOf}

@@ -1,6 +1,6 @@
 -- `channel::layer4::padded`: the number of blocks, and the bytes from the end to i are zero. Assumes nothing.
 use Prim.Native.Nat.{ℕ, _-_, _*_}
-use mathlib.Core.Path.{_≡_, refl, sym, ap, _∙_}
+use mathlib.Core.Path.{_≡_, sym, ap, _∙_}
 use mathlib.Core.Bool.{_&&_, and-assoc, and-true}
 use mathlib.Core.List.{List}
 use native.Mathlib.Omega.{arith}
