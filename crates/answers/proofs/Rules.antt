@@ -13,7 +13,7 @@ pub unless-elim : {A : Type 0} (P : A → Type 0) (b : Bool) (x y : A) → P x �
 unless-elim P true x y px py = py refl
 unless-elim P false x y px py = px
 
-pub cond-elim {ℓ} : {A : Type ℓ} (P : A → Type 0) (b : Bool) {x y : A} → (b ≡ true → P x) → (b ≡ false → P y) → P (cond b x y)
+pub cond-elim {ℓ} : {A : Type ℓ} (P : Bool → A → Type 0) (b : Bool) {x y : A} → (b ≡ true → P true x) → (b ≡ false → P false y) → P b (cond b x y)
 cond-elim P true px py = px refl
 cond-elim P false px py = py refl
 

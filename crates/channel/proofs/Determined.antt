@@ -1,11 +1,13 @@
 -- NO TWO OUTCOMES MEET A PROMISE of this crate's public functions. Assumes nothing.
 use Prim.Native.Nat.{ℕ}
 use mathlib.Core.Path.{_≡_, refl, sym, ap, _∙_}
+use mathlib.Core.Bool.{Bool}
 use mathlib.Core.List.{List}
 use native.Mathlib.Omega.{arith}
 use Rattle.answers.specs.Numbers.{numberOf}
 use Rattle.answers.proofs.Determined.{refusal-once}
 use Rattle.channel.specs.Answers.{outcome, ChannelAfter, toldStep}
+use Rattle.channel.specs.Layer4.{sizeOf, blocksFor}
 use Rattle.channel.specs.State.{fresh, stepOf}
 use Rattle.channel.specs.declared.Channel.{Channel}
 use Rattle.channel.specs.declared.Step.{Step}
@@ -34,3 +36,11 @@ step-once c information r s p q =
     let answer = outcome-once (r .answer) (s .answer) (ap (λ (l : ChannelAfter). l .answer) e) in
     let channel = ap (λ (l : ChannelAfter). l .channel) e in
     λ i. record { answer = answer i; channel = channel i }
+
+-- `header_size`
+pub header-size-once : (ext : Bool) (r s : ℕ) → r ≡ sizeOf ext → s ≡ sizeOf ext → r ≡ s
+header-size-once ext r s p q = p ∙ sym q
+
+-- `blocks_for`
+pub blocks-for-once : (bytes r s : ℕ) → r ≡ blocksFor bytes → s ≡ blocksFor bytes → r ≡ s
+blocks-for-once bytes r s p q = p ∙ sym q

@@ -1,21 +1,19 @@
 -- A STATE THAT KEEPS ITS RULE STILL KEEPS IT AFTER ANY STEP. Assumes nothing.
 use Prim.Native.Nat.{ℕ, _+_, _%_, _≤_}
 use mathlib.Core.Path.{_≡_, refl}
-use mathlib.Core.Bool.{Bool, true, false}
+use mathlib.Core.Bool.{Bool, true, false, not}
 use mathlib.Core.List.{List}
 use native.Mathlib.Omega.{arith}
 use borrow.Author.Tests.{eq-eqb, le-leb, ltb-true}
 use lib.Dec.{eqb, ltb}
-use lib.ListN.{length, drop}
-use lib.Seq.{paste}
+use lib.ListN.{length}
 use Rattle.answers.proofs.Rules.{unless-elim}
-use Rattle.header.specs.Header.{field, holds}
+use Rattle.header.specs.Header.{total, holds}
 use Rattle.channel.specs.Answers.{ChannelAfter}
-use Rattle.channel.specs.Layer3.{layer3, headerOf, lfOf, scOf}
-use Rattle.channel.specs.State.{channelWith, fresh, keepsRule, asWaiting, afterJoining, followed, inPhase, advanced, stepOf}
+use Rattle.channel.specs.Layer3.{layer3, headerOf, siLchOf, lfOf, scOf}
+use Rattle.channel.specs.State.{channelWith, fresh, keepsRule, isWaiting, asWaiting, afterJoining, stepOf}
 use Rattle.channel.specs.declared.Channel.{Channel}
-use Rattle.channel.specs.declared.Phase.{Phase}
-use Rattle.channel.specs.declared.Phase.the-variants.{Waiting, Ready, Gathering}
+use Rattle.channel.specs.declared.Phase.the-variants.{Ready, Gathering}
 use Rattle.channel.proofs.Laws.{rule-bytes}
 
 -- the state that a block without LF leaves keeps the rule
@@ -45,29 +43,21 @@ unfolding afterJoining
 joined-kept bytes n true sc h k = ready-rule bytes (sc + 1)
 joined-kept bytes n false sc h k = next-rule bytes n sc h k
 
-followed-kept : (c : Channel) (lf : Bool) (sc : ℕ) (twenty : List ℕ) → keepsRule c ≡ true → Kept (followed c lf sc twenty)
-unfolding followed
-followed-kept c lf sc twenty rule =
-    let r = rule-bytes c rule in
-    unless-elim Kept (eqb sc (c .expected)) _ _ (waiting-kept c lf sc)
-    (λ e. unless-elim Kept (ltb (c .gathered) 260) _ _ (waiting-kept c lf sc)
-    (λ l. let room = ltb-true (c .gathered) 260 l in
-    joined-kept (paste (c .bytes) (c .gathered) twenty 20) (c .gathered) lf sc (omega arith) (r .1)))
-
-phase-kept : (p : Phase) (c : Channel) (lf : Bool) (sc : ℕ) (twenty : List ℕ) → keepsRule c ≡ true → Kept (inPhase p c lf sc twenty)
-phase-kept Waiting c lf sc twenty rule = waiting-kept c lf sc
-phase-kept Ready c lf sc twenty rule = followed-kept c lf sc twenty rule
-phase-kept Gathering c lf sc twenty rule = followed-kept c lf sc twenty rule
-
 pub rule-kept : (c : Channel) (information : List ℕ) → keepsRule c ≡ true → keepsRule (stepOf c information .channel) ≡ true
-unfolding stepOf advanced
+unfolding stepOf
 rule-kept c information rule =
     let h = headerOf information in
-    unless-elim Kept (keepsRule c) _ _ rule
-    (λ a. unless-elim Kept (eqb (length information) 22) _ _ rule
-    (λ b. unless-elim Kept (eqb (field layer3 0 h) 10) _ _ rule
-    (λ d. unless-elim Kept (holds 10 h) _ _ rule
-    (λ e. phase-kept (c .phase) c (lfOf h) (scOf h) (drop 2 information) rule))))
+    let waiting = waiting-kept c (lfOf h) (scOf h) in
+    unless-elim Kept (keepsRule c) _ _ rule λ _.
+    unless-elim Kept (eqb (length information) 22) _ _ rule λ _.
+    unless-elim Kept (eqb (siLchOf h) 10) _ _ rule λ _.
+    unless-elim Kept (holds (total layer3) h) _ _ rule λ _.
+    unless-elim Kept (not (isWaiting (c .phase))) _ _ waiting λ _.
+    unless-elim Kept (eqb (scOf h) (c .expected)) _ _ waiting λ _.
+    unless-elim Kept (ltb (c .gathered) 260) _ _ waiting λ l.
+    let r = rule-bytes c rule in
+    let room = ltb-true (c .gathered) 260 l in
+    joined-kept _ (c .gathered) (lfOf h) (scOf h) (omega arith) (r .1)
 
 pub fresh-rule : keepsRule fresh ≡ true
 unfolding keepsRule fresh

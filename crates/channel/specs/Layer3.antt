@@ -9,9 +9,12 @@ use Rattle.header.specs.Header.{field, flag, headerFrom}
 abbrev pub layer3 : List ℕ
 layer3 = 4 ∷ 1 ∷ 1 ∷ 4 ∷ []
 
--- the header of an information block; its fields are 0 SI/LCh, 1 DI, 2 LF, 3 SC
+-- the header of an information block, and its fields; DI may be either
 abbrev pub headerOf : List ℕ → ℕ
 headerOf information = headerFrom (take 2 information)
+
+abbrev pub siLchOf : ℕ → ℕ
+siLchOf h = field layer3 0 h
 
 abbrev pub lfOf : ℕ → Bool
 lfOf h = flag layer3 2 h

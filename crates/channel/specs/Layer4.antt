@@ -7,6 +7,7 @@ use lib.ListN.{length, getD, take, drop}
 use Rattle.answers.specs.Rules.{unless}
 use Rattle.header.specs.Header.{total, field, flag, holds, headerFrom}
 use Rattle.channel.specs.Answers.{Outcome, message, refused}
+use Rattle.channel.specs.declared.Header.{Header}
 use Rattle.channel.specs.declared.layer4.Opened.{Opened}
 
 -- where EXT is 1; a field that a header does not have is 0 bits wide
@@ -53,9 +54,21 @@ openedAt bytes = opened (extOf bytes) (headerFrom (take (sizeOf (extOf bytes)) b
 abbrev pub rightForm : Bool → ℕ → Bool
 rightForm ext number = cond ext (leb 512 number) true
 
+-- the bytes of a header and its data
+abbrev pub endOf : Header → ℕ
+endOf m = m .size + m .length
+
 -- the least number of 20-byte blocks that holds n bytes
 abbrev pub blocksFor : ℕ → ℕ
 blocksFor n = (n + 19) / 20
+
+-- the blocks that a header and its data fill: at least one, since a header has bytes
+abbrev pub blocksFilled : Header → ℕ
+blocksFilled m = blocksFor (endOf m)
+
+-- the data stands behind the header
+abbrev pub dataOf : Header → List ℕ → List ℕ
+dataOf m bytes = take (m .length) (drop (m .size) bytes)
 
 abbrev pub isPadding : List ℕ → Bool
 isPadding [] = true
@@ -64,14 +77,15 @@ isPadding (b ∷ bytes) = eqb b 0 && isPadding bytes
 -- CAF set (6); header check (4); RFA, or the wrong EXT form (6); over 260 bytes (14); wrong block count (7); padding (7); else "message"
 unfoldable pub tested : Opened → List ℕ → Outcome
 tested o bytes =
+    let m = o .header in
     unless (not (o .caf)) (refused 6)
     (unless (o .checked) (refused 4)
     (unless (eqb (o .rfa) 0) (refused 6)
-    (unless (rightForm (o .header .ext) (o .header .number)) (refused 6)
-    (unless (leb (o .header .size + o .header .length) 260) (refused 14)
-    (unless (eqb (blocksFor (o .header .size + o .header .length) * 20) (length bytes)) (refused 7)
-    (unless (isPadding (drop (o .header .size + o .header .length) bytes)) (refused 7)
-    (message (o .header))))))))
+    (unless (rightForm (m .ext) (m .number)) (refused 6)
+    (unless (leb (endOf m) 260) (refused 14)
+    (unless (eqb (blocksFilled m * 20) (length bytes)) (refused 7)
+    (unless (isPadding (drop (endOf m) bytes)) (refused 7)
+    (message m)))))))
 
 unfoldable pub messageOf : List ℕ → Outcome
 messageOf bytes = tested (openedAt bytes) bytes

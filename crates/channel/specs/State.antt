@@ -1,14 +1,14 @@
 -- Document 01, "Channel state": a fresh state, the rule of a state, and each information block, rule by rule. Assumes nothing.
 use Prim.Native.Nat.{ℕ, _+_, _%_}
-use mathlib.Core.Bool.{Bool, false, cond, _&&_}
+use mathlib.Core.Bool.{Bool, true, false, not, cond, _&&_}
 use mathlib.Core.List.{List}
 use lib.Dec.{eqb, leb, ltb}
 use lib.ListN.{length, take, drop, replicate}
 use lib.Seq.{paste}
 use Rattle.answers.specs.Rules.{unless}
-use Rattle.header.specs.Header.{field, holds}
+use Rattle.header.specs.Header.{total, holds}
 use Rattle.channel.specs.Answers.{taken, refused, ChannelAfter, channelAfter}
-use Rattle.channel.specs.Layer3.{layer3, headerOf, lfOf, scOf}
+use Rattle.channel.specs.Layer3.{layer3, headerOf, siLchOf, lfOf, scOf}
 use Rattle.channel.specs.Layer4.{messageOf}
 use Rattle.channel.specs.declared.Channel.{Channel}
 use Rattle.channel.specs.declared.Phase.{Phase}
@@ -31,7 +31,12 @@ phaseHolds Gathering gathered expected = leb 20 gathered && leb gathered 260 && 
 unfoldable pub keepsRule : Channel → Bool
 keepsRule c = leb (c .expected) 15 && phaseHolds (c .phase) (c .gathered) (c .expected)
 
--- as waiting: with LF, ready and expecting SC + 1; without, still waiting; no byte changes
+abbrev pub isWaiting : Phase → Bool
+isWaiting Waiting = true
+isWaiting Ready = false
+isWaiting Gathering = false
+
+-- as waiting: with LF, ready and expecting SC + 1; without, still waiting; dropping changes no byte
 unfoldable pub asWaiting : Channel → Bool → ℕ → Channel
 asWaiting c lf sc = cond lf (channelWith (c .bytes) 0 Ready ((sc + 1) % 16)) (channelWith (c .bytes) 0 Waiting 0)
 
@@ -42,35 +47,16 @@ afterJoining bytes gathered lf next =
     (channelAfter (messageOf (take gathered bytes)) (channelWith bytes 0 Ready next))
     (channelAfter taken (channelWith bytes gathered Gathering next))
 
--- SC not the expected one (8), thirteen blocks already gathered (9): dropped, then as waiting; otherwise the twenty bytes are joined on
-unfoldable pub followed : Channel → Bool → ℕ → List ℕ → ChannelAfter
-followed c lf sc twenty =
-    unless (eqb sc (c .expected)) (channelAfter (refused 8) (asWaiting c lf sc))
-    (unless (ltb (c .gathered) 260) (channelAfter (refused 9) (asWaiting c lf sc))
-    (afterJoining (paste (c .bytes) (c .gathered) twenty 20) (c .gathered + 20) lf ((sc + 1) % 16)))
-
--- waiting: answer 8
-abbrev pub inPhase : Phase → Channel → Bool → ℕ → List ℕ → ChannelAfter
-inPhase Waiting c lf sc twenty = channelAfter (refused 8) (asWaiting c lf sc)
-inPhase Ready c lf sc twenty = followed c lf sc twenty
-inPhase Gathering c lf sc twenty = followed c lf sc twenty
-
-unfoldable pub advanced : Channel → Bool → ℕ → List ℕ → ChannelAfter
-advanced c lf sc twenty = inPhase (c .phase) c lf sc twenty
-
--- state (11), length (1), channel (5), header check (4): these leave the state as it stood
+-- state (11), length (1), channel (5), header check (4): these leave the state as it stood. Then waiting (8), SC not the expected one (8), thirteen blocks
+-- already gathered (9): dropped, then as waiting. Otherwise the twenty bytes are joined on
 unfoldable pub stepOf : Channel → List ℕ → ChannelAfter
 stepOf c information =
+    let h = headerOf information in
     unless (keepsRule c) (channelAfter (refused 11) c)
     (unless (eqb (length information) 22) (channelAfter (refused 1) c)
-    (unless (eqb (field layer3 0 (headerOf information)) 10) (channelAfter (refused 5) c)
-    (unless (holds 10 (headerOf information)) (channelAfter (refused 4) c)
-    (advanced c (lfOf (headerOf information)) (scOf (headerOf information)) (drop 2 information)))))
-
--- What a private function owes; no public promise cites it.
-
--- an SC is expected, and it is this one
-abbrev pub inStep : Phase → ℕ → ℕ → Bool
-inStep Waiting expected sc = false
-inStep Ready expected sc = eqb sc expected
-inStep Gathering expected sc = eqb sc expected
+    (unless (eqb (siLchOf h) 10) (channelAfter (refused 5) c)
+    (unless (holds (total layer3) h) (channelAfter (refused 4) c)
+    (unless (not (isWaiting (c .phase))) (channelAfter (refused 8) (asWaiting c (lfOf h) (scOf h)))
+    (unless (eqb (scOf h) (c .expected)) (channelAfter (refused 8) (asWaiting c (lfOf h) (scOf h)))
+    (unless (ltb (c .gathered) 260) (channelAfter (refused 9) (asWaiting c (lfOf h) (scOf h)))
+    (afterJoining (paste (c .bytes) (c .gathered) (drop 2 information) 20) (c .gathered + 20) (lfOf h) ((scOf h + 1) % 16))))))))

@@ -10,7 +10,6 @@ use crate::DATA_IN_BLOCK;
 use crate::Header;
 use crate::MOST_GATHERED;
 use crate::Step;
-use crate::row;
 use answers::Refusal;
 
 // A header as it stands in the bytes, before its tests.
@@ -54,15 +53,8 @@ fn header_at(bytes: &[u8]) -> Opened
     ensures { λ r. ⌜ r ≡ openedAt (now (bytes .entry)) ⌝ }
 {
     let ext = bytes[0] / 2 % 2 == 1;
-    let size = size_of(ext);
-    parted(row::number(&bytes[..size]), ext, size)
-}
-
-// The bytes of a header.
-fn size_of(ext: bool) -> usize
-    ensures { λ r. ⌜ (r ≡ sizeOf ext) × (4 ≤ r) × (r ≤ 5) ⌝ }
-{
-    if ext { 5 } else { 4 }
+    let size = crate::header_size(ext);
+    parted(crate::header_from(&bytes[..size]), ext, size)
 }
 
 // A header of `size` bytes, taken apart.
@@ -73,7 +65,7 @@ fn parted(h: u64, ext: bool, size: usize) -> Opened
     let fields = h / 64;
     Opened {
         header: reported(h, ext, size),
-        rfa: with_ext(ext, (fields >> 10) % 8) as u8,
+        rfa: where_ext(ext, (fields >> 10) % 8) as u8,
         caf: (fields >> 8) % 2 == 1,
         checked: header::check(fields) == h % 64,
     }
@@ -86,7 +78,7 @@ fn reported(h: u64, ext: bool, size: usize) -> Header
 {
     let fields = h / 64;
     let front = fields >> (8 * size - 22);
-    let upper = with_ext(ext, (fields >> 13) % 32);
+    let upper = where_ext(ext, (fields >> 13) % 32);
     Header {
         ri: ((front >> 14) % 4) as u8,
         ci: ((front >> 12) % 4) as u8,
@@ -101,7 +93,7 @@ fn reported(h: u64, ext: bool, size: usize) -> Header
 }
 
 // A field that a header has with EXT only.
-fn with_ext(ext: bool, field: u64) -> u64
+fn where_ext(ext: bool, field: u64) -> u64
     ensures { λ r. ⌜ (r ≡ whereExt ext field) × (r ≤ field) ⌝ }
 {
     if ext { field } else { 0 }
@@ -112,7 +104,7 @@ fn padded(bytes: &[u8], end: usize) -> bool
     requires { ⌜ end ≤ 260 ⌝ }
     ensures { λ r. ⌜ r ≡ (eqb (blocksFor end * 20) (length (now (bytes .entry))) && isPadding (drop end (now (bytes .entry)))) ⌝ }
 {
-    let mut right = (end + 19) / DATA_IN_BLOCK * DATA_IN_BLOCK == bytes.len();
+    let mut right = crate::blocks_for(end) * DATA_IN_BLOCK == bytes.len();
     let mut i = end;
     while i < bytes.len() {
         right = right & (bytes[i] == 0);

@@ -1,11 +1,15 @@
 // The long message channel of document 01, layers 3 and 4: a channel state takes information blocks of 22 bytes and
 // gives messages.
 ghost use mathlib.Core.Path.{_≡_};
+ghost use Prim.Native.Nat.{_*_, _<_, _≤_, _^_};
+ghost use lib.ListN.{length};
+ghost use Rattle.header.specs.Header.{headerFrom};
 ghost use Rattle.channel.specs.Answers.{toldStep};
+ghost use Rattle.channel.specs.Layer4.{sizeOf, blocksFor};
 ghost use Rattle.channel.specs.State.{fresh, stepOf};
 
+mod layer3;
 mod layer4;
-mod row;
 mod state;
 
 pub use answers::INFORMATION_BYTES;
@@ -86,8 +90,9 @@ impl Channel {
     }
 
     // Takes one information block. Refused, with the channel as it stood: a state outside its rule (11), another
-    // length than 22 (1), another channel (5), a wrong check (4). Then 8, 9, "taken", or what the message's own tests
-    // say (6, 4, 14, 7, or the message), with the channel that the rules of state.rt leave.
+    // length than 22 (1), another channel (5), a wrong check (4). Dropped, then as waiting: a waiting channel (8), another
+    // SC than the expected one (8), a fourteenth block (9). Else the block is joined on: "taken", or with LF what the
+    // message's own tests say (6, 4, 14, 7, or the message).
     pub fn step(self, information: &[u8]) -> Stepped
         ensures { λ r. ⌜ toldStep r ≡ stepOf self (now (information .entry)) ⌝ }
     {
@@ -97,19 +102,56 @@ impl Channel {
         if information.len() != INFORMATION_BYTES {
             return state::refused(Refusal::WrongLength, self);
         }
-        let h = row::number(&information[..2]);
-        let fields = h / 64;
-        if fields / 64 % 16 != 10 {
+        let header = layer3::read(information);
+        if header.si_lch != 10 {
             return state::refused(Refusal::OtherChannel, self);
         }
-        if header::check(fields) != h % 64 {
+        if !header.checked {
             return state::refused(Refusal::HeaderCheck, self);
         }
-        state::advance(
-            self,
-            fields / 16 % 2 == 1,
-            (fields % 16) as u8,
-            &information[2..],
-        )
+        let phase = self.phase;
+        if state::is_waiting(phase) {
+            return state::dropped(Refusal::OutOfStep, self, header);
+        }
+        if header.sc != self.expected {
+            return state::dropped(Refusal::OutOfStep, self, header);
+        }
+        if MOST_GATHERED <= self.gathered {
+            return state::dropped(Refusal::TooMany, self, header);
+        }
+        state::join_on(self, header, &information[2..])
     }
+}
+
+// The bytes of a message's header, without EXT or with it.
+pub fn header_size(ext: bool) -> usize
+    ensures { λ r. ⌜ r ≡ sizeOf ext ⌝ }
+{
+    if ext { 5 } else { 4 }
+}
+
+// The least number of blocks that holds so many bytes; rounded up like this, no number of bytes is too great.
+pub fn blocks_for(bytes: usize) -> usize
+    ensures { λ r. ⌜ r ≡ blocksFor bytes ⌝ }
+{
+    let full = bytes / DATA_IN_BLOCK;
+    if bytes % DATA_IN_BLOCK == 0 {
+        full
+    } else {
+        full + 1
+    }
+}
+
+// The header that bytes are, the first byte highest.
+pub(crate) fn header_from(bytes: &[u8]) -> u64
+    requires { ⌜ length (now bytes) ≤ 5 ⌝ }
+    ensures { λ r. ⌜ (r ≡ headerFrom (now (bytes .entry))) × (r < 2 ^ (8 * length (now (bytes .entry)))) ⌝ }
+{
+    let mut h: u64 = 0;
+    let mut i: usize = 0;
+    while i < bytes.len() {
+        h = h * 256 + bytes[i] as u64;
+        i += 1;
+    }
+    h
 }

@@ -1,18 +1,18 @@
-// The channel's state: its rule, and what a block with a right header does to it.
-ghost use mathlib.Core.Bool.{true};
+// The channel's state: its rule, and what a block with a right header leaves of it.
 ghost use mathlib.Core.Path.{_≡_};
-ghost use Prim.Native.Nat.{_<_, _≤_};
+ghost use Prim.Native.Nat.{_+_, _%_, _<_, _≤_};
 ghost use lib.ListN.{length};
 ghost use lib.Seq.{paste};
 ghost use Rattle.answers.specs.Numbers.{numberOf};
 ghost use Rattle.channel.specs.Answers.{toldStep, channelAfter, refused};
-ghost use Rattle.channel.specs.State.{keepsRule, asWaiting, inStep, afterJoining, advanced};
+ghost use Rattle.channel.specs.State.{keepsRule, isWaiting, asWaiting, afterJoining};
 use crate::Channel;
 use crate::DATA_IN_BLOCK;
 use crate::MOST_GATHERED;
 use crate::Phase;
 use crate::Step;
 use crate::Stepped;
+use crate::layer3::BlockHeader;
 use crate::layer4;
 use answers::Refusal;
 
@@ -40,80 +40,52 @@ pub(crate) fn keeps_rule(channel: Channel) -> bool
     (sc <= 15) & held
 }
 
-// A block with a right header, by its LF, its SC and its twenty bytes. One out of step drops what was gathered, and so
-// does a fourteenth.
-pub(crate) fn advance(channel: Channel, lf: bool, sc: u8, twenty: &[u8]) -> Stepped
-    requires { ⌜ (keepsRule channel ≡ true) × (sc < 16) × (length (now twenty) ≡ 20) ⌝ }
-    ensures { λ r. ⌜ toldStep r ≡ advanced channel lf sc (now (twenty .entry)) ⌝ }
+pub(crate) fn is_waiting(phase: Phase) -> bool
+    ensures { λ r. ⌜ r ≡ isWaiting phase ⌝ }
 {
-    if !in_step(channel, sc) {
-        return refused(Refusal::OutOfStep, as_waiting(channel, lf, sc));
-    }
-    let at = channel.gathered;
-    if MOST_GATHERED <= at {
-        return refused(Refusal::TooMany, as_waiting(channel, lf, sc));
-    }
-    let bytes = channel.bytes;
-    gather(
-        join(bytes, at, twenty),
-        at + DATA_IN_BLOCK,
-        lf,
-        (sc + 1) % 16,
-    )
-}
-
-// A waiting channel expects no SC.
-fn in_step(channel: Channel, sc: u8) -> bool
-    ensures { λ r. ⌜ r ≡ inStep (channel .phase) (channel .expected) sc ⌝ }
-{
-    let phase = channel.phase;
-    let expected = channel.expected;
     match phase {
-        Phase::Waiting => false,
-        Phase::Ready => sc == expected,
-        Phase::Gathering => sc == expected,
+        Phase::Waiting => true,
+        Phase::Ready => false,
+        Phase::Gathering => false,
     }
 }
 
-// As waiting: LF makes the channel ready for the next block. No byte changes.
-fn as_waiting(channel: Channel, lf: bool, sc: u8) -> Channel
-    requires { ⌜ sc < 16 ⌝ }
-    ensures { λ r. ⌜ r ≡ asWaiting channel lf sc ⌝ }
+// Drops what was gathered, then as waiting: LF makes the channel ready for the next block. No byte changes.
+pub(crate) fn dropped(refusal: Refusal, channel: Channel, header: BlockHeader) -> Stepped
+    requires { ⌜ header .sc < 16 ⌝ }
+    ensures { λ r. ⌜ toldStep r ≡ channelAfter (refused (numberOf refusal)) (asWaiting channel (header .lf) (header .sc)) ⌝ }
 {
     let bytes = channel.bytes;
-    if lf {
-        Channel {
+    if header.lf {
+        let left = Channel {
             bytes,
             gathered: 0,
             phase: Phase::Ready,
-            expected: (sc + 1) % 16,
-        }
+            expected: (header.sc + 1) % 16,
+        };
+        refused(refusal, left)
     } else {
-        Channel {
+        let left = Channel {
             bytes,
             gathered: 0,
             phase: Phase::Waiting,
             expected: 0,
-        }
+        };
+        refused(refusal, left)
     }
 }
 
-// Joins twenty bytes on.
-fn join(bytes: [u8; MOST_GATHERED], at: usize, twenty: &[u8]) -> [u8; MOST_GATHERED]
-    requires { ⌜ (at ≤ 240) × (length (now twenty) ≡ 20) ⌝ }
-    ensures { λ r. ⌜ r ≡ paste bytes at (now (twenty .entry)) 20 ⌝ }
+// Joins twenty bytes on. With LF the bytes gathered are read as a message, and the channel is ready for the next.
+pub(crate) fn join_on(channel: Channel, header: BlockHeader, twenty: &[u8]) -> Stepped
+    requires { ⌜ (channel .gathered ≤ 240) × (header .sc < 16) × (length (now twenty) ≡ 20) ⌝ }
+    ensures { λ r. ⌜ toldStep r ≡ afterJoining (paste (channel .bytes) (channel .gathered) (now (twenty .entry)) 20) (channel .gathered + 20) (header .lf) ((header .sc + 1) % 16) ⌝ }
 {
-    let mut joined = bytes;
-    bytes::copy(twenty, &mut joined[at..]);
-    joined
-}
-
-// What n gathered bytes lead to: with LF they are read as a message, and the channel is ready for the next.
-fn gather(bytes: [u8; MOST_GATHERED], n: usize, lf: bool, next: u8) -> Stepped
-    requires { ⌜ (20 ≤ n) × (n ≤ 260) ⌝ }
-    ensures { λ r. ⌜ toldStep r ≡ afterJoining bytes n lf next ⌝ }
-{
-    if lf {
+    let at = channel.gathered;
+    let n = at + DATA_IN_BLOCK;
+    let next = (header.sc + 1) % 16;
+    let bytes = channel.bytes;
+    let bytes = join(bytes, at, twenty);
+    if header.lf {
         let answer = layer4::read(&bytes[..n]);
         let channel = Channel {
             bytes,
@@ -134,4 +106,13 @@ fn gather(bytes: [u8; MOST_GATHERED], n: usize, lf: bool, next: u8) -> Stepped
             channel,
         }
     }
+}
+
+fn join(bytes: [u8; MOST_GATHERED], at: usize, twenty: &[u8]) -> [u8; MOST_GATHERED]
+    requires { ⌜ (at ≤ 240) × (length (now twenty) ≡ 20) ⌝ }
+    ensures { λ r. ⌜ r ≡ paste bytes at (now (twenty .entry)) 20 ⌝ }
+{
+    let mut joined = bytes;
+    bytes::copy(twenty, &mut joined[at..]);
+    joined
 }

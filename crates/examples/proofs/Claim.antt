@@ -6,23 +6,18 @@ use mathlib.Core.Logic.{inl, inr}
 use Prim.Native.Nat.{ℕ, zero, suc, _+_, _*_, _≤_}
 use native.Mathlib.Omega.{arith}
 use borrow.Author.Tests.{le-leb, lt-leb}
-use lib.Dec.{T, eqb, leb, lit≤}
+use lib.Dec.{T, leb, lit≤}
 use lib.Ieee.Fits.{and-r}
 use lib.ListN.{length, getD, replicate}
 use lib.Pow.{areBytes}
-use Rattle.answers.specs.Rules.{unless}
 use Rattle.code.specs.Code.{generator, CodeWord, distance}
 use Rattle.code.proofs.Majority.{only-word, nine-away}
 use Rattle.block.specs.Bytes.{bitOf, rowOf}
 use Rattle.block.specs.Blocks.{checkDivisor, CheckRight}
 use Rattle.block.proofs.Bytes.{row-once, length-rowOf}
-use Rattle.header.specs.Header.{bits, check, field, holds}
-use Rattle.channel.specs.declared.Channel.{Channel}
-use Rattle.channel.specs.Answers as channel
-use Rattle.channel.specs.Answers.{channelAfter}
-use Rattle.channel.specs.Layer3.{layer3, headerOf, lfOf, scOf}
+use Rattle.header.specs.Header.{bits, check}
 use Rattle.channel.specs.Layer4.{sizeOf, blocksFor}
-use Rattle.channel.specs.State.{fresh, keepsRule, asWaiting, advanced, stepOf}
+use Rattle.channel.specs.State.{fresh, keepsRule, asWaiting, stepOf}
 use Rattle.writer.specs.Message.{ToldBlocks}
 use Rattle.writer.proofs.Laws.{within-true}
 use Rattle.writer.proofs.Writing.{message-count, message-written}
@@ -161,27 +156,17 @@ p5-nine = (
   λ received c. noWord-holds received (zeros 34) (c .long) zero-code (omega (arith, left 9 received c)),
 )
 
--- with a right state and a right length the header decides
-module _ (c : Channel) (first second : ℕ) (twenty : List ℕ) where
-  abbrev h : ℕ
-  h = headerOf (first ∷ second ∷ [])
-
-  by-header : keepsRule c ≡ true → length twenty ≡ 20
-      → stepOf c (first ∷ second ∷ twenty) ≡ unless (eqb (field layer3 0 h) 10) (channelAfter (channel.refused 5) c)
-      (unless (holds 10 h) (channelAfter (channel.refused 4) c) (advanced c (lfOf h) (scOf h) twenty))
-  unfolding stepOf
-  by-header rule long = simp (rule, long)
-
 p6 : Holds (headerHolds 164 25 1)
-unfolding fresh keepsRule advanced asWaiting check bits
-p6 twenty r long e = e ∙ by-header fresh 164 25 twenty refl long
+unfolding fresh keepsRule asWaiting check bits stepOf
+p6 twenty r long e = e ∙ simp long
 
 p7 : Holds (headerRefused 164 24 4)
-unfolding check bits
-p7 c twenty r rule long e = e ∙ by-header c 164 24 twenty rule long
+unfolding check bits stepOf
+p7 c twenty r rule long e = e ∙ simp (rule, long)
 
 p8 : Holds (headerRefused 0 0 5)
-p8 c twenty r rule long e = e ∙ by-header c 0 0 twenty rule long
+unfolding stepOf
+p8 c twenty r rule long e = e ∙ simp (rule, long)
 
 both : {s t : ToldNumber} → s ≡ t → (s .answer ≡ t .answer) × (s .number ≡ t .number)
 both e = (ap (λ (t : ToldNumber). t .answer) e, ap (λ (t : ToldNumber). t .number) e)

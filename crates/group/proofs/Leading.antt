@@ -10,15 +10,12 @@ use lib.ListN.{length, take, length-append}
 use lib.Seq.{paste, take-paste, take-length, length-take-le}
 use Rattle.answers.specs.Runs.{stateLeft}
 use Rattle.group.specs.Answers.{Outcome, taken, whole, refused, GroupAfter}
-use Rattle.group.specs.State.{idle, keepsRule, messageFits, joinedOn, followed, joinOf}
+use Rattle.group.specs.State.{idle, keepsRule, messageFits, isIdle, joinedOn, joinOf}
 use Rattle.group.specs.Leading.{Message, GroupAndBuffer, JoinResult, toldResult, joinMessage, leftBy, Joins, joinedTo, changesNothing, joinedAfter, joinedBy, Leads}
 use Rattle.group.specs.declared.Group.{Group}
-use Rattle.group.specs.declared.Phase.{Phase}
-use Rattle.group.specs.declared.Phase.the-variants.{Idle, Gathering}
 use Rattle.answers.proofs.Rules.{unless-elim, cond-elim}
 use Rattle.answers.proofs.Runs.{runOf, run-told}
 use Rattle.group.proofs.Laws.{rule-room}
-use Rattle.group.proofs.Joining.{is-idle}
 
 -- the data behind the bytes held
 pub front : (buffer s : List ℕ) (held : ℕ) → held ≤ length buffer → take (held + length s) (paste buffer held s (length s)) ≡ take held buffer ++ s
@@ -49,16 +46,8 @@ module _ (g : Group) (buffer : List ℕ) (m : Message) where
       let d = take (b .held) buffer ++ m .bytes in
       let n = front-length buffer (m .bytes) (b .held) h in
       let f = front buffer (m .bytes) (b .held) h in
-      cond-elim (Told d) (m .fields .last) (λ _. (sym n, f, ap idle e))
+      cond-elim (λ _. Told d) (m .fields .last) (λ _. (sym n, f, ap idle e))
       λ _. (sym n, ap (λ (k : ℕ). take k (paste buffer (b .held) (m .bytes) (length (m .bytes)))) n ∙ f)
-
-  followed-told : (p : Phase) → g .phase ≡ p → keepsRule g ≡ true → g .held ≤ length buffer → Told (take (g .held) buffer ++ m .bytes) (followed p g (m .fields) (m .bytes) buffer)
-  followed-told Idle e rule h = (is-idle g rule e, refl)
-  followed-told Gathering e rule h =
-      let d = take (g .held) buffer ++ m .bytes in
-      unless-elim (Told d) (eqb (m .fields .ci) ((g .ci + 1) % 4)) _ _ (refl, refl) λ _.
-      unless-elim (Told d) (ltb (g .messages) 15) _ _ (refl, refl) λ _.
-      joined-told g refl h
 
   told : Told (joinedTo (take (g .held) buffer) m) (joinOf g (m .fields) (m .bytes) buffer)
   unfolding joinOf
@@ -69,12 +58,12 @@ module _ (g : Group) (buffer : List ℕ) (m : Message) where
       unless-elim (Told d) (messageFits (m .fields) (length (m .bytes))) _ _ (refl, refl) λ _.
       unless-elim (Told d) (eqb (m .fields .number) (g .number)) _ _ (refl, refl) λ _.
       unless-elim (Told d) (not (m .fields .command)) _ _ (refl, refl) λ _.
-      by-first (m .fields .first) rule (omega (arith, rule-room g rule, leb-true 3825 (length buffer) l))
-    where
-      by-first : (b : Bool) → keepsRule g ≡ true → g .held ≤ length buffer
-          → Told (cond b (m .bytes) (take (g .held) buffer ++ m .bytes)) (cond b (joinedOn (idle (g .number)) (m .fields) (m .bytes) buffer) (followed (g .phase) g (m .fields) (m .bytes) buffer))
-      by-first true rule h = joined-told (idle (g .number)) refl (omega arith)
-      by-first false rule h = followed-told (g .phase) refl rule h
+      cond-elim (λ b. Told (cond b (m .bytes) (take (g .held) buffer ++ m .bytes))) (m .fields .first) (λ _. joined-told (idle (g .number)) refl (omega arith))
+      (λ _. let e = take (g .held) buffer ++ m .bytes in
+      unless-elim (Told e) (not (isIdle (g .phase))) _ _ (refl, refl) λ _.
+      unless-elim (Told e) (eqb (m .fields .ci) ((g .ci + 1) % 4)) _ _ (refl, refl) λ _.
+      unless-elim (Told e) (ltb (g .messages) 15) _ _ (refl, refl) λ _.
+      joined-told g refl (omega (arith, rule-room g rule, leb-true 3825 (length buffer) l)))
 
   -- A REFUSAL CHANGES NO BYTE; 10, 11 AND 13 LEAVE THE STATE AS IT STOOD, AND ANY OTHER IDLE
   pub refused-kept : (j : JoinResult) (n : ℕ) → toldResult j ≡ joinOf g (m .fields) (m .bytes) buffer → toldResult j .answer ≡ refused n

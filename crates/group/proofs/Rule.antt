@@ -10,10 +10,9 @@ use lib.ListN.{length}
 use Rattle.channel.specs.declared.Fields.{Fields}
 use Rattle.answers.proofs.Rules.{unless-elim, cond-elim}
 use Rattle.group.specs.Answers.{GroupAfter, Made}
-use Rattle.group.specs.State.{groupWith, idle, newOf, phaseHolds, keepsRule, messageFits, joinedOn, followed, joinOf}
+use Rattle.group.specs.State.{groupWith, idle, newOf, phaseHolds, keepsRule, messageFits, isIdle, joinedOn, joinOf}
 use Rattle.group.specs.declared.Group.{Group}
-use Rattle.group.specs.declared.Phase.{Phase}
-use Rattle.group.specs.declared.Phase.the-variants.{Idle, Gathering}
+use Rattle.group.specs.declared.Phase.the-variants.{Gathering}
 use Rattle.group.proofs.Laws.{rule-room, within-bounds}
 
 pub rule-number : (g : Group) → keepsRule g ≡ true → g .number ≤ 16383
@@ -42,27 +41,24 @@ module _ (m : Fields) (s buffer : List ℕ) (fits : messageFits m (length s) ≡
   unfolding joinedOn
   joined-kept g hn hh hm =
       let b = within-bounds m (length s) fits in
-      cond-elim Kept (m .last) (λ _. idle-rule (g .number) hn)
+      cond-elim (λ _. Kept) (m .last) (λ _. idle-rule (g .number) hn)
       λ _. gathering-rule (g .number) (g .held) (g .messages) (length s) (m .ci) hn hh hm (b .0) (b .1)
-
-  followed-kept : (p : Phase) (g : Group) → keepsRule g ≡ true → Kept (followed p g m s buffer)
-  followed-kept Idle g rule = rule
-  followed-kept Gathering g rule =
-      let n = rule-number g rule in
-      unless-elim Kept (eqb (m .ci) ((g .ci + 1) % 4)) _ _ (idle-rule (g .number) n) λ _.
-      unless-elim Kept (ltb (g .messages) 15) _ _ (idle-rule (g .number) n) λ l.
-      joined-kept g n (rule-room g rule .0) (ltb-true (g .messages) 15 l)
 
 pub rule-kept : (g : Group) (m : Fields) (s buffer : List ℕ) → keepsRule g ≡ true → keepsRule (joinOf g m s buffer .group) ≡ true
 unfolding joinOf
 rule-kept g m s buffer rule =
+    let n = rule-number g rule in
+    let idles = idle-rule (g .number) n in
     unless-elim Kept (leb 3825 (length buffer)) _ _ rule λ _.
     unless-elim Kept (keepsRule g) _ _ rule λ _.
     unless-elim Kept (messageFits m (length s)) _ _ rule λ fits.
     unless-elim Kept (eqb (m .number) (g .number)) _ _ rule λ _.
     unless-elim Kept (not (m .command)) _ _ rule λ _.
-    cond-elim Kept (m .first) (λ _. joined-kept m s buffer fits (idle (g .number)) (rule-number g rule) (omega arith) (omega arith)) λ _.
-    followed-kept m s buffer fits (g .phase) g rule
+    cond-elim (λ _. Kept) (m .first) (λ _. joined-kept m s buffer fits (idle (g .number)) n (omega arith) (omega arith)) λ _.
+    unless-elim Kept (not (isIdle (g .phase))) _ _ idles λ _.
+    unless-elim Kept (eqb (m .ci) ((g .ci + 1) % 4)) _ _ idles λ _.
+    unless-elim Kept (ltb (g .messages) 15) _ _ idles λ l.
+    joined-kept m s buffer fits g n (rule-room g rule .0) (ltb-true (g .messages) 15 l)
 
 pub new-rule : (number : ℕ) → keepsRule (newOf number .group) ≡ true
 unfolding newOf

@@ -1,6 +1,6 @@
 -- Document 01, "Group state": a fresh state, the rule of a state, and each message, rule by rule. Assumes nothing.
 use Prim.Native.Nat.{ℕ, _+_, _*_, _%_}
-use mathlib.Core.Bool.{Bool, not, cond, _&&_, _||_}
+use mathlib.Core.Bool.{Bool, true, false, not, cond, _&&_}
 use mathlib.Core.List.{List}
 use lib.Dec.{eqb, leb, ltb}
 use lib.ListN.{length}
@@ -44,16 +44,13 @@ joinedOn g m s buffer =
     (groupAfter (whole (g .held + length s)) (idle (g .number)) (paste buffer (g .held) s (length s)))
     (groupAfter taken (groupWith (g .number) Gathering (g .held + length s) (g .messages + 1) (m .ci)) (paste buffer (g .held) s (length s)))
 
--- not First and idle: answer 8, still idle; CI not one more, modulo 4: idle, answer 8; fifteen messages already: idle, answer 9; otherwise joined on
-abbrev pub followed : Phase → Group → Fields → List ℕ → List ℕ → GroupAfter
-followed Idle g m s buffer = groupAfter (refused 8) g buffer
-followed Gathering g m s buffer =
-    unless (eqb (m .ci) ((g .ci + 1) % 4)) (groupAfter (refused 8) (idle (g .number)) buffer)
-    (unless (ltb (g .messages) 15) (groupAfter (refused 9) (idle (g .number)) buffer)
-    (joinedOn g m s buffer))
+abbrev pub isIdle : Phase → Bool
+isIdle Idle = true
+isIdle Gathering = false
 
--- buffer short (10); a state otherwise, number above 16,383, data over 255 bytes or a field over its width (11); another service number or COM set (13);
--- these change nothing. First set: whatever was gathered is dropped and this data is the group so far
+-- buffer short (10); a state otherwise, number above 16,383, data over 255 bytes or a field over its width (11); another service number or COM set (13):
+-- these change nothing. First set: whatever was gathered is dropped and this data is the group so far. Not First and idle (8), CI not one
+-- more, modulo 4 (8), fifteen messages already (9): idle. Otherwise the data is joined on
 unfoldable pub joinOf : Group → Fields → List ℕ → List ℕ → GroupAfter
 joinOf g m s buffer =
     unless (leb 3825 (length buffer)) (groupAfter (refused 10) g buffer)
@@ -62,11 +59,7 @@ joinOf g m s buffer =
     (unless (eqb (m .number) (g .number)) (groupAfter (refused 13) g buffer)
     (unless (not (m .command)) (groupAfter (refused 13) g buffer)
     (cond (m .first) (joinedOn (idle (g .number)) m s buffer)
-    (followed (g .phase) g m s buffer))))))
-
--- What a private function owes; no public promise cites it.
-
--- a First is in step with any state, another message with one that gathers and has the CI before its own
-abbrev pub inStep : Bool → Phase → ℕ → ℕ → Bool
-inStep first Idle ci next = first
-inStep first Gathering ci next = first || eqb next ((ci + 1) % 4)
+    (unless (not (isIdle (g .phase))) (groupAfter (refused 8) (idle (g .number)) buffer)
+    (unless (eqb (m .ci) ((g .ci + 1) % 4)) (groupAfter (refused 8) (idle (g .number)) buffer)
+    (unless (ltb (g .messages) 15) (groupAfter (refused 9) (idle (g .number)) buffer)
+    (joinedOn g m s buffer)))))))))

@@ -78,19 +78,28 @@ impl Group {
         if buffer.len() < Group::MOST_BYTES {
             return state::refused(Refusal::TooShort, self);
         }
-        if !state::within_rules(self, message, data.len()) {
+        if !state::keeps_rule(self) {
             return state::refused(Refusal::OutsideRule, self);
         }
-        if !state::belongs(self, message) {
+        if !state::message_fits(message, data.len()) {
+            return state::refused(Refusal::OutsideRule, self);
+        }
+        if (message.number != self.number) | message.command {
             return state::refused(Refusal::NotThisGroup, self);
         }
-        let base = state::base(self, message);
-        if !state::in_step(base, message) {
-            return state::refused(Refusal::OutOfStep, state::idle(self.number));
+        if message.first {
+            return state::join_on(state::idle(self.number), message, data, buffer);
         }
-        if Group::MOST_MESSAGES <= base.messages {
-            return state::refused(Refusal::TooMany, state::idle(self.number));
+        let phase = self.phase;
+        if state::is_idle(phase) {
+            return state::left_idle(Refusal::OutOfStep, self);
         }
-        state::join_on(base, message, data, buffer)
+        if message.ci != (self.ci + 1) % 4 {
+            return state::left_idle(Refusal::OutOfStep, self);
+        }
+        if Group::MOST_MESSAGES <= self.messages {
+            return state::left_idle(Refusal::TooMany, self);
+        }
+        state::join_on(self, message, data, buffer)
     }
 }

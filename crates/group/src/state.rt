@@ -1,13 +1,11 @@
 // The group's state: its rule, and what a message of its own service number does to it.
-ghost use mathlib.Core.Bool.{not, cond, _&&_};
 ghost use mathlib.Core.List.{List};
 ghost use mathlib.Core.Path.{_≡_};
 ghost use Prim.Native.Nat.{ℕ, _+_, _<_, _≤_};
-ghost use lib.Dec.{eqb};
 ghost use lib.ListN.{length};
 ghost use Rattle.answers.specs.Numbers.{numberOf};
 ghost use Rattle.group.specs.Answers.{refused, groupAfter, toldJoin};
-ghost use Rattle.group.specs.State.{idle, keepsRule, messageFits, inStep, joinedOn};
+ghost use Rattle.group.specs.State.{idle, keepsRule, messageFits, isIdle, joinedOn};
 use crate::Group;
 use crate::Phase;
 use crate::Step;
@@ -38,8 +36,15 @@ pub(crate) fn refused(refusal: Refusal, group: Group) -> Stepped
     }
 }
 
+// A refusal that leaves the state idle: whatever was gathered is dropped.
+pub(crate) fn left_idle(refusal: Refusal, group: Group) -> Stepped
+    ensures { λ r. ⌜ ((buffer : List ℕ) → toldJoin r buffer ≡ groupAfter (refused (numberOf refusal)) (idle (group .number)) buffer) ⌝ }
+{
+    refused(refusal, idle(group.number))
+}
+
 // Whether the numbers are as the phase has them.
-fn keeps_rule(group: Group) -> bool
+pub(crate) fn keeps_rule(group: Group) -> bool
     ensures { λ r. ⌜ r ≡ keepsRule group ⌝ }
 {
     let phase = group.phase;
@@ -58,43 +63,19 @@ fn keeps_rule(group: Group) -> bool
     }
 }
 
-// Whether the state is as its phase has it and the message within its widths.
-pub(crate) fn within_rules(group: Group, message: Fields, length: usize) -> bool
-    ensures { λ r. ⌜ r ≡ (keepsRule group && messageFits message length) ⌝ }
+// Whether a message is within its widths.
+pub(crate) fn message_fits(message: Fields, length: usize) -> bool
+    ensures { λ r. ⌜ r ≡ messageFits message length ⌝ }
 {
-    keeps_rule(group)
-        & ((message.number <= LAST_NUMBER)
-            & (length <= MOST_DATA)
-            & (message.ri <= 3)
-            & (message.ci <= 3))
+    (message.number <= LAST_NUMBER) & (length <= MOST_DATA) & (message.ri <= 3) & (message.ci <= 3)
 }
 
-// Whether a message is of this group: its service number, and no COM.
-pub(crate) fn belongs(group: Group, message: Fields) -> bool
-    ensures { λ r. ⌜ r ≡ (eqb (message .number) (group .number) && not (message .command)) ⌝ }
+pub(crate) fn is_idle(phase: Phase) -> bool
+    ensures { λ r. ⌜ r ≡ isIdle phase ⌝ }
 {
-    (message.number == group.number) & !message.command
-}
-
-// What the data is joined on to: a First drops whatever was gathered.
-pub(crate) fn base(group: Group, message: Fields) -> Group
-    ensures { λ r. ⌜ r ≡ cond (message .first) (idle (group .number)) group ⌝ }
-{
-    if message.first {
-        return idle(group.number);
-    }
-    group
-}
-
-// A First is always in step.
-pub(crate) fn in_step(group: Group, message: Fields) -> bool
-    requires { ⌜ group .ci ≤ 3 ⌝ }
-    ensures { λ r. ⌜ r ≡ inStep (message .first) (group .phase) (group .ci) (message .ci) ⌝ }
-{
-    let phase = group.phase;
     match phase {
-        Phase::Idle => message.first,
-        Phase::Gathering => message.first | (message.ci == (group.ci + 1) % 4),
+        Phase::Idle => true,
+        Phase::Gathering => false,
     }
 }
 

@@ -16,13 +16,12 @@ use Rattle.header.specs.Header.{Fit, field, fields, header, bytesOf, headerFrom
 use Rattle.header.proofs.Fields.{fields-fit, number-bytes, number-lt}
 use Rattle.header.proofs.Bits.{bit-of, header-again}
 use Rattle.channel.specs.Answers.{Outcome, message, refused}
-use Rattle.channel.specs.Layer4.{whereExt, layer4, sizeOf, opened, extOf, openedAt, blocksFor, isPadding, rightForm, tested, messageOf}
+use Rattle.channel.specs.Layer4.{whereExt, layer4, sizeOf, endOf, blocksFilled, dataOf, opened, extOf, openedAt, isPadding, rightForm, tested, messageOf}
 use Rattle.channel.specs.declared.Header.{Header}
 use Rattle.channel.specs.declared.layer4.Opened.{Opened}
 use Rattle.channel.proofs.Headers.{fields-small}
-use Rattle.writer.specs.Reading.{dataOf}
-use Rattle.writer.specs.Message.{valuesOf, headerBytes, blocksFilled, messageBytes}
-use Rattle.writer.proofs.Laws.{size-room}
+use Rattle.channel.proofs.Laws.{size-room}
+use Rattle.writer.specs.Message.{valuesOf, headerBytes, messageBytes}
 use Rattle.writer.proofs.HeaderBack.{Right, ext-place}
 
 -- ---- what an accepted row has passed
@@ -36,21 +35,21 @@ record Passed (o : Opened) (bytes : List ℕ) (h : Header) : Type 0 where
   checked : o .checked ≡ true
   rfa : o .rfa ≡ 0
   form : rightForm (o .header .ext) (o .header .number) ≡ true
-  count : blocksFor (o .header .size + o .header .length) * 20 ≡ length bytes
-  padding : isPadding (drop (o .header .size + o .header .length) bytes) ≡ true
+  count : blocksFilled (o .header) * 20 ≡ length bytes
+  padding : isPadding (drop (endOf (o .header)) bytes) ≡ true
   is : o .header ≡ h
 
 all-passed : (o : Opened) (bytes : List ℕ) (h : Header) → tested o bytes ≡ message h → Passed o bytes h
 unfolding tested
 all-passed o bytes h e =
-    let end = o .header .size + o .header .length in
+    let end = endOf (o .header) in
     let Is : Outcome → Type 0 = λ r. r ≡ message h in
     let a = unless-passed Is (not (o .caf)) _ _ (no-message h 6) e in
     let b = unless-passed Is (o .checked) _ _ (no-message h 4) (a .1) in
     let c = unless-passed Is (eqb (o .rfa) 0) _ _ (no-message h 6) (b .1) in
     let d = unless-passed Is (rightForm (o .header .ext) (o .header .number)) _ _ (no-message h 6) (c .1) in
     let f = unless-passed Is (leb end 260) _ _ (no-message h 14) (d .1) in
-    let g = unless-passed Is (eqb (blocksFor end * 20) (length bytes)) _ _ (no-message h 7) (f .1) in
+    let g = unless-passed Is (eqb (blocksFilled (o .header) * 20) (length bytes)) _ _ (no-message h 7) (f .1) in
     let j = unless-passed Is (isPadding (drop end bytes)) _ _ (no-message h 7) (g .1) in
     let m : message (o .header) ≡ message h = j .1 in
     record {
@@ -58,7 +57,7 @@ all-passed o bytes h e =
       checked = b .0;
       rfa = eqb-true (o .rfa) 0 (c .0);
       form = d .0;
-      count = eqb-true (blocksFor end * 20) (length bytes) (g .0);
+      count = eqb-true (blocksFilled (o .header) * 20) (length bytes) (g .0);
       padding = j .0;
       is = cc;
     }
@@ -127,17 +126,14 @@ pub record Again (bytes : List ℕ) (m : Header) : Type 0 where
   pub row : messageBytes m (dataOf m bytes) ≡ bytes
   pub blocks : blocksFilled m * 20 ≡ length bytes
 
-row-again : (m : Header) (s : List ℕ) → m .size ≡ sizeOf (m .ext) → headerBytes m ≡ take (m .size) s → blocksFor (m .size + m .length) * 20 ≡ length s
-    → isPadding (drop (m .size + m .length) s) ≡ true → messageBytes m (dataOf m s) ≡ s
+row-again : (m : Header) (s : List ℕ) → headerBytes m ≡ take (m .size) s → blocksFilled m * 20 ≡ length s → isPadding (drop (endOf m) s) ≡ true → messageBytes m (dataOf m s) ≡ s
 unfolding messageBytes
-row-again m s size h count z =
-    let n = m .size + m .length in
+row-again m s h count z =
+    let n = endOf m in
     let front : headerBytes m ++ dataOf m s ≡ take n s = ap (λ (x : List ℕ). x ++ dataOf m s) h ∙ sym (take-add (m .size) (m .length) s) in
-    let left : length (drop n s) ≡ blocksFor n * 20 - n = length-drop n s ∙ ap (λ (k : ℕ). k - n) (sym count) in
-    let back : drop n s ≡ replicate (blocksFor n * 20 - n) 0 = zeros-all (drop n s) z ∙ ap (λ (k : ℕ). replicate k 0) left in
-    ap (λ (k : ℕ). headerBytes m ++ dataOf m s ++ replicate (blocksFor (k + m .length) * 20 - (k + m .length)) 0) (sym size)
-    ∙ ap₂ (λ (x y : List ℕ). x ++ y) front (sym back)
-    ∙ take-append-drop n s
+    let left : length (drop n s) ≡ blocksFilled m * 20 - n = length-drop n s ∙ ap (λ (k : ℕ). k - n) (sym count) in
+    let back : drop n s ≡ replicate (blocksFilled m * 20 - n) 0 = zeros-all (drop n s) z ∙ ap (λ (k : ℕ). replicate k 0) left in
+    ap₂ (λ (x y : List ℕ). x ++ y) front (sym back) ∙ take-append-drop n s
 
 module _ (bytes : List ℕ) (fit : areBytes bytes ≡ true) (long : 5 ≤ length bytes) where
   size : ℕ
@@ -176,6 +172,6 @@ module _ (bytes : List ℕ) (fit : areBytes bytes ≡ true) (long : 5 ≤ length
       subst (Again bytes) (p .is)
       (record {
         right = read-right ext whole bytes whole-small ext-again m p;
-        row = row-again h bytes refl front (p .count) (p .padding);
+        row = row-again h bytes front (p .count) (p .padding);
         blocks = p .count;
       })

@@ -2,7 +2,7 @@
 -- Assumes nothing.
 use Prim.Native.Nat.{ℕ, zero, suc, _+_, _-_, _*_, _/_, _%_, _≤_, _<_}
 use mathlib.Core.Path.{_≡_, refl, sym, ap, ap₂, _∙_, subst}
-use mathlib.Core.Bool.{Bool, true, false, _&&_}
+use mathlib.Core.Bool.{Bool, true, false, not, _||_}
 use mathlib.Core.List.{List, [], _∷_, _++_, map, map-append, append-assoc}
 use native.Mathlib.Numerals.{add-one}
 use native.Mathlib.Omega.{arith}
@@ -105,9 +105,8 @@ module _ (number ri : ℕ) (small-number : number ≤ 16383) (small-ri : ri ≤ 
   follows held messages ci last s buffer rule hc hd hm room =
       let g = groupWith number Gathering held messages ci in
       let m = groupFields number ri ((ci + 1) % 4) false last in
-      let rules : (keepsRule g && messageFits m (length s)) ≡ true = rw (rule, allowed ((ci + 1) % 4) (length s) false last (omega arith) hd) in
-      let ours : (eqb number number && true) ≡ true = rw (eq-eqb number number refl) in
-      sym (joining.joins g m s buffer room rules ours g refl (eq-eqb ((ci + 1) % 4) ((ci + 1) % 4) refl) hm)
+      let ours : (not (eqb number number) || false) ≡ false = rw (eq-eqb number number refl) in
+      sym (joining.joins g m s buffer room rule (allowed ((ci + 1) % 4) (length s) false last (omega arith) hd) ours refl false refl refl refl hm)
 
   record SeriesJoined (k : ℕ) (s : List ℕ) (base : Group) (from : GroupAndBuffer) (told : List GroupAfter) : Type 0 where
     answers : map (λ t. t .answer) told ≡ replicate k taken ++ (whole (base .held + length s) ∷ [])
@@ -180,11 +179,10 @@ group-back x s before after w c steps g joins wrote took l sc did rule same room
     (series-read (x .number) (x .ri) (x .di) (omega arith) (omega arith) (suc k) true (x .ci) s c (omega arith) l) in
     let m = groupFields (x .number) (x .ri) (x .ci) true (eqb k 0) in
     let few : length (take 255 s) ≤ 255 = omega (arith, length-take 255 s) in
-    let rules : (keepsRule (g .group) && messageFits m (length (take 255 s))) ≡ true =
-    rw (rule, allowed (x .number) (x .ri) (omega arith) (omega arith) (x .ci) (length (take 255 s)) true (eqb k 0) (omega arith) few) in
-    let ours : (eqb (x .number) (g .group .number) && true) ≡ true = rw (eq-eqb _ _ (sym same)) in
+    let fits = allowed (x .number) (x .ri) (omega arith) (omega arith) (x .ci) (length (take 255 s)) true (eqb k 0) (omega arith) few in
+    let ours : (not (eqb (x .number) (g .group .number)) || false) ≡ false = rw (eq-eqb _ _ (sym same)) in
     let first : joinOf (g .group) m (take 255 s) (g .buffer) ≡ joinedOn (idle (x .number)) m (take 255 s) (g .buffer) =
-    sym (joining.joins (g .group) m (take 255 s) (g .buffer) room rules ours (idle (g .group .number)) refl refl (omega arith))
+    sym (joining.begins (g .group) m (take 255 s) (g .buffer) room rule fits ours refl)
     ∙ ap (λ (i : ℕ). joinedOn (idle i) m (take 255 s) (g .buffer)) same in
     let J : SeriesJoined (x .number) (x .ri) (omega arith) (omega arith) k s (idle (x .number)) g (map toldResult joins) =
     rw (run-told joinMessage leftBy toldResult g (messagesIn (map toldStep steps)) joins joined, read .given)

@@ -13,6 +13,7 @@ use Rattle.gf2.specs.Poly.{bit}
 use Rattle.header.specs.Header.{field}
 use Rattle.channel.specs.Answers.{Outcome, taken, message, refused, ChannelAfter, toldStep}
 use Rattle.channel.specs.Layer3.{layer3, headerOf}
+use Rattle.channel.specs.Layer4.{blocksFilled, dataOf}
 use Rattle.channel.specs.State.{keepsRule, stepOf}
 use Rattle.channel.specs.declared.Channel.{Channel}
 use Rattle.channel.specs.declared.Fields.{Fields}
@@ -23,7 +24,7 @@ use Rattle.group.specs.Answers as group
 use Rattle.group.specs.Answers.{GroupAfter}
 use Rattle.group.specs.Leading.{Message, GroupAndBuffer, leftBy}
 use Rattle.group.specs.State.{idle}
-use Rattle.writer.specs.Message.{headerFor, blocksFilled, messageBytes, messageInWidths, flat}
+use Rattle.writer.specs.Message.{headerFor, messageBytes, messageInWidths, flat}
 use Rattle.writer.specs.Group.{messagesFor, messagesOf}
 use Rattle.writer.specs.declared.Series.{Series}
 use Rattle.writer.specs.declared.Wrote.{Wrote}
@@ -51,10 +52,6 @@ pub record Listens (c : Channel) : Type 0 where
   pub ready : c .phase ≡ Ready
   pub rule : keepsRule c ≡ true
   pub full : length (c .bytes) ≡ 260
-
--- the data of a message stands behind its header
-abbrev pub dataOf : Header → List ℕ → List ℕ
-dataOf m bytes = take (m .length) (drop (m .size) bytes)
 
 -- ---- a message reads back
 

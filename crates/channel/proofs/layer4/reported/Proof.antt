@@ -13,8 +13,8 @@ sub-front c = search needs
 shr-front : tie.Need-shr-front
 shr-front c = search needs
 
-with-ext-requires : tie.Need-with-ext-requires
-with-ext-requires c κs = search needs
+where-ext-requires : tie.Need-where-ext-requires
+where-ext-requires c κs = search needs
 
 cast-t11 : tie.Need-cast-t11
 cast-t11 c = search needs
@@ -35,7 +35,7 @@ returns : tie.Need-returns
 returns c =
     let s = c .before in
     let a = s .args in
-    taken-opened (a .ext) (a .h) (a .size) (c .with-ext .result) (s .pre .0) (c .with-ext .ensures .0)
+    taken-opened (a .ext) (a .h) (a .size) (c .where-ext .result) (s .pre .0) (c .where-ext .ensures .0)
 
 pub reported-spec : {M : Type 1} → statement M
 reported-spec =
@@ -44,7 +44,7 @@ reported-spec =
     mul-front
     sub-front
     shr-front
-    with-ext-requires
+    where-ext-requires
     cast-t11
     cast-t14
     mul-t21
