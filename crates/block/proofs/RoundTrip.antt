@@ -13,7 +13,7 @@ use Rattle.answers.specs.Numbers.{accepted, paper}
 use Rattle.gf2.specs.Poly.{bit, Multiple, checkOf, systematic}
 use Rattle.gf2.proofs.Bits.{⊕-self}
 use Rattle.gf2.proofs.Remainders.{systematic-multiple}
-use Rattle.code.specs.Code.{generator, CodeWord, distance}
+use Rattle.code.specs.Code.{generator, CodeWord, distance, mostCorrected}
 use Rattle.code.proofs.Computed.{generator-length}
 use Rattle.code.proofs.Majority.{code-length, only-word}
 use Rattle.block.specs.Bytes.{rowOf}
@@ -54,7 +54,7 @@ block-again word w right =
 -- WITH AT MOST EIGHT PLACES CHANGED the reader gives the written information, and the number of places
 pub changed-reads : (information block received before after : List ℕ) (answer : Answer) (count : ℕ)
     → length information ≡ 22 → rowOf block ≡ blockRow (rowOf information) → length received ≡ 34 → length before ≡ 22
-    → distance (rowOf received) (rowOf block) ≤ 8 → areBytes information ≡ true → areBytes after ≡ true → Reads received before after answer count
+    → distance (rowOf received) (rowOf block) ≤ mostCorrected → areBytes information ≡ true → areBytes after ≡ true → Reads received before after answer count
     → (paper answer ≡ accepted) × (after ≡ information) × (count ≡ distance (rowOf received) (rowOf block))
 changed-reads information block received before after answer count li written lr lb near bi ba = outcome
   where
@@ -64,7 +64,7 @@ changed-reads information block received before after answer count li written lr
     code : CodeWord (rowOf block)
     code = subst CodeWord (sym written) (block-code (rowOf information) info-length)
 
-    same : (word : List Bool) → CodeWord word → distance (rowOf received) word ≤ 8 → word ≡ rowOf block
+    same : (word : List Bool) → CodeWord word → distance (rowOf received) word ≤ mostCorrected → word ≡ rowOf block
     same word w d = only-word (rowOf received) word (rowOf block) (length-rowOf received ∙ omega arith) w code d near
 
     outcome : Reads received before after answer count → (paper answer ≡ accepted) × (after ≡ information) × (count ≡ distance (rowOf received) (rowOf block))

@@ -12,7 +12,7 @@ use Rattle.code.specs.Code.{generator}
 use Rattle.block.specs.Bytes.{rowOf}
 use Rattle.block.specs.Corrector.{Near, Sized, WrongLength, NoCodeWord}
 
--- x^14 + x^11 + x^2 + 1
+-- x^14 + x^11 + x^2 + 1; the leading power has no effect here either
 unfoldable pub checkDivisor : List Bool
 checkDivisor = lower 14 (14 ∷ 11 ∷ 2 ∷ 0 ∷ [])
 

@@ -8,18 +8,18 @@ use Prim.Native.Nat.{ℕ, _≤_}
 use lib.ListN.{length}
 use Rattle.answers.specs.declared.Answer.{Answer}
 use Rattle.answers.specs.Numbers.{accepted, refused, paper}
-use Rattle.code.specs.Code.{CodeWord, distance}
+use Rattle.code.specs.Code.{CodeWord, distance, mostCorrected}
 use Rattle.block.specs.Bytes.{rowOf}
 
 -- a code word differs from a row in at most eight places, and the count says in how many
 pub record Near (row word : List Bool) (count : ℕ) : Type 0 where
   pub code : CodeWord word
-  pub near : distance row word ≤ 8
+  pub near : distance row word ≤ mostCorrected
   pub counts : count ≡ distance row word
 
 -- no code word differs in at most eight places
 abbrev pub NoneNear : List Bool → Type 0
-NoneNear row = (word : List Bool) → CodeWord word → distance row word ≤ 8 → ⊥
+NoneNear row = (word : List Bool) → CodeWord word → distance row word ≤ mostCorrected → ⊥
 
 -- It wants 34 bytes in and 34 out, the reader 34 and 22, the block writer 22 and 34, else 1.
 pub record Sized (bytes room : ℕ) (given before : List ℕ) : Type 0 where

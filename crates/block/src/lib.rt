@@ -1,13 +1,7 @@
 // Document 01, "The block": 272 bits in sending order, as 34 bytes.
 ghost use mathlib.Core.Path.{_≡_};
-ghost use mathlib.Core.Bool.{_&&_, not};
-ghost use Prim.Native.Nat.{_≤_};
-ghost use lib.ListN.{length, take};
-ghost use Rattle.gf2.specs.Poly.{allZero, remainder};
-ghost use Rattle.block.specs.Bytes.{rowOf};
-ghost use Rattle.block.specs.Nearest.{Puts};
 ghost use Rattle.block.specs.Corrector.{Corrects};
-ghost use Rattle.block.specs.Blocks.{checkDivisor, blockRow, Reads, Writes};
+ghost use Rattle.block.specs.Blocks.{Reads, Writes};
 
 mod check;
 mod nearest;
@@ -16,10 +10,16 @@ mod rows;
 use answers::Answer;
 pub use answers::INFORMATION_BYTES;
 use answers::Refusal;
-use nearest::Found;
 
 // A block without its BIC, in bytes.
 pub const BLOCK_BYTES: usize = 34;
+
+// Its information, with the check bits behind, with the parity behind both, in bits.
+const INFORMATION_BITS: usize = 176;
+
+const CHECKED_BITS: usize = 190;
+
+const BLOCK_BITS: usize = 272;
 
 // What the corrector and the block reader answer: the count is the number of places in which the code word differs from what was received.
 pub struct Corrected {
@@ -36,7 +36,16 @@ pub fn correct(received: &[u8], out: &mut [u8]) -> Corrected
     if !((received.len() == BLOCK_BYTES) & (out.len() == BLOCK_BYTES)) {
         return refused(Refusal::WrongLength);
     }
-    put_word(nearest::nearest(received), out)
+    let found = nearest::nearest(received);
+    if !found.near {
+        return refused(Refusal::NoCodeWord);
+    }
+    let word = found.word;
+    rows::fill_bytes(&word, out);
+    Corrected {
+        answer: Answer::Accepted,
+        count: found.count,
+    }
 }
 
 // Puts into `out` the 22 information bytes of the code word that differs from the received bits in at most eight places.
@@ -49,13 +58,21 @@ pub fn read_block(received: &[u8], out: &mut [u8]) -> Corrected
         return refused(Refusal::WrongLength);
     }
     let found = nearest::nearest(received);
-    if lacks_check(found) {
+    if !found.near {
+        return refused(Refusal::NoCodeWord);
+    }
+    let word = found.word;
+    if !check::holds(&word) {
         return Corrected {
             answer: Answer::Refused(Refusal::CheckBits),
             count: found.count,
         };
     }
-    put_word(found, out)
+    rows::fill_bytes(&word, out);
+    Corrected {
+        answer: Answer::Accepted,
+        count: found.count,
+    }
 }
 
 // Puts into `out` the block of 22 information bytes: information, check and parity in sending order.
@@ -66,48 +83,14 @@ pub fn write_block(information: &[u8], out: &mut [u8]) -> Answer
     if !((information.len() == INFORMATION_BYTES) & (out.len() == BLOCK_BYTES)) {
         return Answer::Refused(Refusal::WrongLength);
     }
-    put_block(information, out);
-    Answer::Accepted
-}
-
-// Whether a code word was found whose check bits are wrong.
-fn lacks_check(found: Found) -> bool
-    ensures { λ r. ⌜ r ≡ (found .near && not (allZero (remainder checkDivisor 176 (take 190 (found .word))))) ⌝ }
-{
-    let word = found.word;
-    if found.near {
-        return !check::holds(&word);
-    }
-    false
-}
-
-// Puts as much of the word as there is room for, where one was found.
-fn put_word(found: Found, out: &mut [u8]) -> Corrected
-    requires { ⌜ length (now out) ≤ 34 ⌝ }
-    ensures { λ r. ⌜ Puts (found .near) (found .word) (found .count) (now (out .entry)) (now (out .exit)) (r .answer) (r .count) ⌝ }
-{
-    if !found.near {
-        return refused(Refusal::NoCodeWord);
-    }
-    let word = found.word;
-    rows::pack(&word, out);
-    Corrected {
-        answer: Answer::Accepted,
-        count: found.count,
-    }
-}
-
-fn put_block(information: &[u8], out: &mut [u8])
-    requires { ⌜ (length (now information) ≡ 22) × (length (now out) ≡ 34) ⌝ }
-    ensures { λ _. ⌜ rowOf (now (out .exit)) ≡ blockRow (rowOf (now (information .entry))) ⌝ }
-{
-    let mut row = [false; 272];
-    rows::unpack(information, &mut row);
+    let mut row = [false; BLOCK_BITS];
+    rows::fill_row(information, &mut row);
     let divisor = check::divisor();
     let generator = code::generator_row();
-    let checked = check::append(row, 176, &divisor);
-    let word = check::append(checked, 190, &generator);
-    rows::pack(&word, out);
+    let checked = check::append(row, INFORMATION_BITS, &divisor);
+    let word = check::append(checked, CHECKED_BITS, &generator);
+    rows::fill_bytes(&word, out);
+    Answer::Accepted
 }
 
 fn refused(refusal: Refusal) -> Corrected

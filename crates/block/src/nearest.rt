@@ -8,46 +8,59 @@ ghost use Rattle.code.specs.Code.{distance, generator};
 ghost use Rattle.code.specs.Vote.{bitAt, checkPositions, paritySum, paritySums, oddSums, voted};
 ghost use Rattle.block.specs.Bytes.{rowOf};
 ghost use Rattle.block.specs.Nearest.{Searched};
+use super::BLOCK_BITS;
 use super::check;
 use super::rows;
+
+// The circle on which the sums are shifted: the positions of a block, and behind them the left-off one.
+const CIRCLE: usize = 273;
+
+// A sum is of so many positions, and so many sums meet in each position.
+const SUMS: usize = 17;
+
+// More than half of them.
+const MAJORITY: usize = 9;
+
+// A code word that differs in more places is not taken.
+const MOST_CORRECTED: usize = 8;
 
 // What the search found: with `near` a code word, and in how many places it differs.
 pub(crate) struct Found {
     pub near: bool,
-    pub word: [bool; 272],
+    pub word: [bool; BLOCK_BITS],
     pub count: u8,
 }
 
 // A position of the circle of 273; the left-off one is zero.
-fn bit_at(row: &[bool; 272], p: usize) -> bool
+fn bit_at(row: &[bool; BLOCK_BITS], p: usize) -> bool
     requires { ⌜ length (now row) ≡ 272 ⌝ }
     ensures { λ r. ⌜ r ≡ bitAt (now (row .entry)) p ⌝ }
 {
-    if p < 272 { row[p] } else { false }
+    if p < BLOCK_BITS { row[p] } else { false }
 }
 
 // The parity sum at a shift.
-fn parity_sum(row: &[bool; 272], positions: &[usize; 17], t: usize) -> bool
+fn parity_sum(row: &[bool; BLOCK_BITS], positions: &[usize; SUMS], t: usize) -> bool
     requires { ⌜ (length (now row) ≡ 272) × (now positions ≡ checkPositions) × (t < 273) ⌝ }
     ensures { λ r. ⌜ r ≡ paritySum (now (row .entry)) t ⌝ }
 {
     let mut odd = false;
     let mut l: usize = 0;
-    while l < 17 {
-        odd = gf2::sum(odd, bit_at(row, (t + positions[l]) % 273));
+    while l < SUMS {
+        odd = gf2::sum(odd, bit_at(row, (t + positions[l]) % CIRCLE));
         l += 1;
     }
     odd
 }
 
 // All 273 sums, made once: each meets in seventeen positions.
-fn parity_sums(row: &[bool; 272], positions: &[usize; 17]) -> [bool; 273]
+fn parity_sums(row: &[bool; BLOCK_BITS], positions: &[usize; SUMS]) -> [bool; CIRCLE]
     requires { ⌜ (length (now row) ≡ 272) × (now positions ≡ checkPositions) ⌝ }
     ensures { λ r. ⌜ r ≡ paritySums (now (row .entry)) ⌝ }
 {
-    let mut sums = [false; 273];
+    let mut sums = [false; CIRCLE];
     let mut t: usize = 0;
-    while t < 273 {
+    while t < CIRCLE {
         sums[t] = parity_sum(row, positions, t);
         t += 1;
     }
@@ -55,51 +68,51 @@ fn parity_sums(row: &[bool; 272], positions: &[usize; 17]) -> [bool; 273]
 }
 
 // How many are odd of the sums that meet in a position.
-fn odd_sums(sums: &[bool; 273], positions: &[usize; 17], p: usize) -> usize
+fn odd_sums(sums: &[bool; CIRCLE], positions: &[usize; SUMS], p: usize) -> usize
     requires { ⌜ (length (now sums) ≡ 273) × (now positions ≡ checkPositions) × (p < 272) ⌝ }
     ensures { λ r. ⌜ r ≡ oddSums (now (sums .entry)) p ⌝ }
 {
     let mut odd: usize = 0;
     let mut l: usize = 0;
-    while l < 17 {
-        odd += gf2::number(sums[(p + 273 - positions[l]) % 273]) as usize;
+    while l < SUMS {
+        odd += gf2::number(sums[(p + CIRCLE - positions[l]) % CIRCLE]) as usize;
         l += 1;
     }
     odd
 }
 
-// Each bit is turned where nine or more of its sums are odd.
-fn vote(row: &[bool; 272]) -> [bool; 272]
+// Each bit is turned where the majority of its sums is odd.
+fn vote(row: &[bool; BLOCK_BITS]) -> [bool; BLOCK_BITS]
     requires { ⌜ length (now row) ≡ 272 ⌝ }
     ensures { λ r. ⌜ r ≡ voted (now (row .entry)) ⌝ }
 {
     let positions = code::check_positions();
     let sums = parity_sums(row, &positions);
-    let mut word = [false; 272];
+    let mut word = [false; BLOCK_BITS];
     let mut p: usize = 0;
-    while p < 272 {
-        word[p] = gf2::sum(row[p], 9 <= odd_sums(&sums, &positions, p));
+    while p < BLOCK_BITS {
+        word[p] = gf2::sum(row[p], MAJORITY <= odd_sums(&sums, &positions, p));
         p += 1;
     }
     word
 }
 
-fn is_code_word(row: &[bool; 272]) -> bool
+fn is_code_word(row: &[bool; BLOCK_BITS]) -> bool
     requires { ⌜ length (now row) ≡ 272 ⌝ }
     ensures { λ r. ⌜ r ≡ allZero (remainder generator 190 (now (row .entry))) ⌝ }
 {
     let generator = code::generator_row();
-    check::divides(row, 272, &generator)
+    check::divides(row, BLOCK_BITS, &generator)
 }
 
 // In how many places two rows differ.
-fn distance_of(row: &[bool; 272], word: &[bool; 272]) -> usize
+fn distance_of(row: &[bool; BLOCK_BITS], word: &[bool; BLOCK_BITS]) -> usize
     requires { ⌜ (length (now row) ≡ 272) × (length (now word) ≡ 272) ⌝ }
     ensures { λ r. ⌜ r ≡ distance (now (row .entry)) (now (word .entry)) ⌝ }
 {
     let mut count: usize = 0;
     let mut place: usize = 0;
-    while place < 272 {
+    while place < BLOCK_BITS {
         count += gf2::number(gf2::sum(row[place], word[place])) as usize;
         place += 1;
     }
@@ -107,13 +120,13 @@ fn distance_of(row: &[bool; 272], word: &[bool; 272]) -> usize
 }
 
 // The vote alone may leave a row that is no code word, or turn more than eight bits; both are tested.
-fn search(row: &[bool; 272]) -> Found
+fn search(row: &[bool; BLOCK_BITS]) -> Found
     requires { ⌜ length (now row) ≡ 272 ⌝ }
     ensures { λ r. ⌜ Searched (now (row .entry)) (r .near) (r .word) (r .count) ⌝ }
 {
     let word = vote(row);
     let places = distance_of(row, &word);
-    if is_code_word(&word) & (places <= 8) {
+    if is_code_word(&word) & (places <= MOST_CORRECTED) {
         let count = places as u8;
         return Found {
             near: true,
@@ -128,12 +141,12 @@ fn search(row: &[bool; 272]) -> Found
     }
 }
 
-// The code word within eight places of a received block.
+// What the search finds for a received block.
 pub(crate) fn nearest(received: &[u8]) -> Found
     requires { ⌜ length (now received) ≡ 34 ⌝ }
     ensures { λ r. ⌜ Searched (rowOf (now (received .entry))) (r .near) (r .word) (r .count) ⌝ }
 {
-    let mut row = [false; 272];
-    rows::unpack(received, &mut row);
+    let mut row = [false; BLOCK_BITS];
+    rows::fill_row(received, &mut row);
     search(&row)
 }

@@ -13,8 +13,8 @@ use Rattle.gf2.specs.Poly.{bit, _⊕_}
 use Rattle.gf2.proofs.Bits.{⊕-false, ⊕-twice}
 use Rattle.gf2.proofs.Lists.{length-rowFrom, getD-rowFrom}
 use Rattle.gf2.proofs.Remainders.{multiple-length}
-use Rattle.code.specs.Code.{generator, CodeWord, distance}
-use Rattle.code.specs.Vote.{differences, bitAt, parityOver, sumOver, checkPositions, paritySum, paritySums, oddSums, voted}
+use Rattle.code.specs.Code.{generator, CodeWord, distance, mostCorrected}
+use Rattle.code.specs.Vote.{differences, bitAt, parityOver, sumOver, checkPositions, paritySum, paritySums, oddSums, majority, voted}
 use Rattle.code.proofs.Sums.{Below, In, in-below, sumTo, sumTo-turn, sumTo-distance, sumTo-le, sum-differences, sumOver-append, sumOver-map, sumOver-le, sumOver-cong, sumOver-add, sumOver-in, parity-sum, parityOver-⊕}
 use Rattle.code.proofs.Computed.{difference-once, positions-below, positions-twice, generator-length}
 use Rattle.code.proofs.Orthogonal.{code-even}
@@ -75,7 +75,7 @@ module _ (e : ℕ → Bool) where
   votes p = sumOver (λ s. bit (oddAt ((p + 273 - s) % 273))) checkPositions
 
   -- a right place has at most as many odd sums as there are wrong places
-  few : (p : ℕ) → p < 273 → sumTo 273 (λ v. bit (e v)) ≤ 8 → e p ≡ false → votes p < 9
+  few : (p : ℕ) → p < 273 → sumTo 273 (λ v. bit (e v)) ≤ mostCorrected → e p ≡ false → votes p < majority
   unfolding votes
   few p h w z =
       omega (
@@ -87,7 +87,7 @@ module _ (e : ℕ → Bool) where
       )
 
   -- of a wrong place's sums only those are even that hold a second wrong place
-  many : (p : ℕ) → p < 273 → sumTo 273 (λ v. bit (e v)) ≤ 9 → e p ≡ true → 9 ≤ votes p
+  many : (p : ℕ) → p < 273 → sumTo 273 (λ v. bit (e v)) ≤ 9 → e p ≡ true → majority ≤ votes p
   unfolding votes
   many p h w z =
       omega (
@@ -100,12 +100,12 @@ module _ (e : ℕ → Bool) where
             (λ s i. omega (arith, odd-wrong ((p + 273 - s) % 273), meets p h s i, ap bit z)),
       )
 
-  decided : (p : ℕ) → p < 273 → sumTo 273 (λ v. bit (e v)) ≤ 8 → leb 9 (votes p) ≡ e p
+  decided : (p : ℕ) → p < 273 → sumTo 273 (λ v. bit (e v)) ≤ mostCorrected → leb majority (votes p) ≡ e p
   decided p h w = go (e p) refl
     where
-      go : (b : Bool) → e p ≡ b → leb 9 (votes p) ≡ b
-      go true z = le-leb 9 _ (many p h (omega arith) z)
-      go false z = lt-leb 9 _ (few p h w z)
+      go : (b : Bool) → e p ≡ b → leb majority (votes p) ≡ b
+      go true z = le-leb majority _ (many p h (omega arith) z)
+      go false z = lt-leb majority _ (few p h w z)
 
 pub code-length : (word : List Bool) → CodeWord word → length word ≡ 272
 code-length word w = multiple-length generator 190 word w ∙ omega (arith, generator-length)
@@ -133,35 +133,35 @@ module _ (row word : List Bool) (l : length row ≡ 272) (w : CodeWord word) whe
       sumOver-cong (λ s. bit (bitAt (paritySums row) ((p + 273 - s) % 273))) (λ s. bit (oddAt wrong ((p + 273 - s) % 273))) checkPositions
       (λ s i. ap bit (getD-rowFrom (paritySum row) 273 ((p + 273 - s) % 273) (mod-lt (p + 273 - s) (lit< tt)) ∙ odd-sum ((p + 273 - s) % 273)))
 
-  turned : distance row word ≤ 8 → (p : ℕ) → p < 273 → leb 9 (oddSums (paritySums row) p) ≡ bitAt row p ⊕ bitAt word p
+  turned : distance row word ≤ mostCorrected → (p : ℕ) → p < 273 → leb majority (oddSums (paritySums row) p) ≡ bitAt row p ⊕ bitAt word p
   unfolding wrong
-  turned d p h = ap (leb 9) (oddSums-votes p) ∙ decided wrong p h (omega (arith, wrongs))
+  turned d p h = ap (leb majority) (oddSums-votes p) ∙ decided wrong p h (omega (arith, wrongs))
 
-  turned-wrong : distance row word ≤ 9 → (p : ℕ) → p < 273 → bitAt row p ⊕ bitAt word p ≡ true → leb 9 (oddSums (paritySums row) p) ≡ true
+  turned-wrong : distance row word ≤ 9 → (p : ℕ) → p < 273 → bitAt row p ⊕ bitAt word p ≡ true → leb majority (oddSums (paritySums row) p) ≡ true
   unfolding wrong
-  turned-wrong d p h e = ap (leb 9) (oddSums-votes p) ∙ le-leb 9 _ (many wrong p h (omega (arith, wrongs)) e)
+  turned-wrong d p h e = ap (leb majority) (oddSums-votes p) ∙ le-leb majority _ (many wrong p h (omega (arith, wrongs)) e)
 
 pub length-voted : (row : List Bool) → length (voted row) ≡ length row
 unfolding voted
-length-voted row = length-rowFrom (λ p. bitAt row p ⊕ leb 9 (oddSums (paritySums row) p)) 0 (length row)
+length-voted row = length-rowFrom (λ p. bitAt row p ⊕ leb majority (oddSums (paritySums row) p)) 0 (length row)
 
-bit-voted : (row : List Bool) (i : ℕ) → i < length row → bitAt (voted row) i ≡ bitAt row i ⊕ leb 9 (oddSums (paritySums row) i)
+bit-voted : (row : List Bool) (i : ℕ) → i < length row → bitAt (voted row) i ≡ bitAt row i ⊕ leb majority (oddSums (paritySums row) i)
 unfolding voted
-bit-voted row i h = getD-rowFrom (λ p. bitAt row p ⊕ leb 9 (oddSums (paritySums row) p)) (length row) i h
+bit-voted row i h = getD-rowFrom (λ p. bitAt row p ⊕ leb majority (oddSums (paritySums row) p)) (length row) i h
 
 -- THE VOTE GIVES EVERY CODE WORD WITHIN EIGHT PLACES
-pub vote-right : (row word : List Bool) → length row ≡ 272 → CodeWord word → distance row word ≤ 8 → voted row ≡ word
+pub vote-right : (row word : List Bool) → length row ≡ 272 → CodeWord word → distance row word ≤ mostCorrected → voted row ≡ word
 vote-right row word l w d =
     ext-getD false (voted row) word (length-voted row ∙ l ∙ sym (code-length word w))
     (λ i h. bit-voted row i (rw (← length-voted row) h)
     ∙ ap (λ z. bitAt row i ⊕ z) (turned row word l w d i (omega (arith, length-voted row))) ∙ ⊕-twice (bitAt row i) (bitAt word i))
 
 -- THERE IS NO SECOND ONE
-pub only-word : (row word other : List Bool) → length row ≡ 272 → CodeWord word → CodeWord other → distance row word ≤ 8 → distance row other ≤ 8 → word ≡ other
+pub only-word : (row word other : List Bool) → length row ≡ 272 → CodeWord word → CodeWord other → distance row word ≤ mostCorrected → distance row other ≤ mostCorrected → word ≡ other
 only-word row word other l w v d e = sym (vote-right row word l w d) ∙ vote-right row other l v e
 
 -- NINE PLACES AWAY FROM A CODE WORD THERE IS NONE WITHIN EIGHT: the vote turns every wrong place, so at least nine
-pub nine-away : (row word : List Bool) → length row ≡ 272 → CodeWord word → distance row word ≡ 9 → (other : List Bool) → CodeWord other → distance row other ≤ 8 → ⊥
+pub nine-away : (row word : List Bool) → length row ≡ 272 → CodeWord word → distance row word ≡ 9 → (other : List Bool) → CodeWord other → distance row other ≤ mostCorrected → ⊥
 unfolding wrong
 nine-away row word l w d other v e =
     omega (

@@ -4,8 +4,8 @@ use mathlib.Core.List.{List, [], _∷_}
 use Prim.Native.Nat.{ℕ, _+_}
 use Rattle.gf2.specs.Poly.{bit, _⊕_, lower, Multiple}
 
--- x^82 + x^77 + x^76 + x^71 + x^67 + x^66 + x^56 + x^52 + x^48 + x^40 + x^36 + x^34 + x^24 + x^22 + x^18 + x^10 + x^4 + 1; as every divisor here, by
--- its coefficients below the leading one
+-- x^82 + x^77 + x^76 + x^71 + x^67 + x^66 + x^56 + x^52 + x^48 + x^40 + x^36 + x^34 + x^24 + x^22 + x^18 + x^10 + x^4 + 1.
+-- As every divisor here, by its coefficients below the leading one: the leading power, here as printed, is none of those and has no effect.
 unfoldable pub generator : List Bool
 generator = lower 82 (82 ∷ 77 ∷ 76 ∷ 71 ∷ 67 ∷ 66 ∷ 56 ∷ 52 ∷ 48 ∷ 40 ∷ 36 ∷ 34 ∷ 24 ∷ 22 ∷ 18 ∷ 10 ∷ 4 ∷ 0 ∷ [])
 
@@ -19,3 +19,7 @@ abbrev pub distance : List Bool → List Bool → ℕ
 distance [] ys = 0
 distance (x ∷ xs) [] = 0
 distance (x ∷ xs) (y ∷ ys) = bit (x ⊕ y) + distance xs ys
+
+-- the most places in which a row may differ from the code word that it is corrected to
+abbrev pub mostCorrected : ℕ
+mostCorrected = 8

@@ -15,7 +15,8 @@ residues = 1 ∷ 2 ∷ 4 ∷ 8 ∷ 16 ∷ 32 ∷ 64 ∷ 91 ∷ 117 ∷ 128 ∷ 1
 unfoldable pub checkPositions : List ℕ
 checkPositions = map (λ r. 67 * r % 273) residues
 
--- the bit at a position; the left-off position 272 is zero
+-- the bit at a position; zero behind the last. Position p stands for x^(271-p), so the left-off leading place, that of x^272, is the position before 0: on the
+-- circle of 273 that is 272.
 abbrev pub bitAt : List Bool → ℕ → Bool
 bitAt row p = getD row p false
 
@@ -53,6 +54,10 @@ paritySums row = rowFrom (paritySum row) 0 273
 unfoldable pub oddSums : List Bool → ℕ → ℕ
 oddSums sums p = sumOver (λ s. bit (bitAt sums ((p + 273 - s) % 273))) checkPositions
 
--- each bit is turned where nine or more of its sums are odd
+-- more than half of seventeen
+abbrev pub majority : ℕ
+majority = 9
+
+-- each bit is turned where the majority of its sums is odd
 unfoldable pub voted : List Bool → List Bool
-voted row = rowFrom (λ p. bitAt row p ⊕ leb 9 (oddSums (paritySums row) p)) 0 (length row)
+voted row = rowFrom (λ p. bitAt row p ⊕ leb majority (oddSums (paritySums row) p)) 0 (length row)

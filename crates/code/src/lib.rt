@@ -5,7 +5,7 @@ ghost use mathlib.Core.Path.{_≡_};
 ghost use Rattle.code.specs.Code.{generator};
 ghost use Rattle.code.specs.Vote.{checkPositions};
 
-// The powers of the generator x^82 + x^77 + .. + 1.
+// The powers of the generator x^82 + x^77 + .. + 1. The leading one has no place in the row of the lower coefficients.
 const GENERATOR_POWERS: [usize; 18] = [
     82,
     77,

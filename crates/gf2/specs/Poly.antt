@@ -29,7 +29,7 @@ abbrev pub scale : Bool → List Bool → List Bool
 scale b [] = []
 scale b (x ∷ xs) = (b && x) ∷ scale b xs
 
--- a row with another, which is no longer, added into its leading places
+-- the first row, the shorter or as long, added into the leading places of the second
 abbrev pub add : List Bool → List Bool → List Bool
 add [] ys = ys
 add (x ∷ xs) [] = []
@@ -74,7 +74,7 @@ abbrev pub elem : ℕ → List ℕ → Bool
 elem n [] = false
 elem n (e ∷ es) = eqb n e || elem n es
 
--- the coefficients, from x^(d-1) down to 1, of the polynomial with these powers
+-- the coefficients, from x^(d-1) down to 1, of the polynomial with these powers; greater powers have no effect
 abbrev pub lower : ℕ → List ℕ → List Bool
 lower zero powers = []
 lower (suc d) powers = elem d powers ∷ lower d powers

@@ -43,6 +43,7 @@ pub fn divide(row: &mut [bool], low: &[bool])
     let mut i: usize = 0;
     while i < steps {
         let behind = i + 1;
+        // The divisor's leading 1 meets the place `i`, whose bit is the quotient's and stays.
         if row[i] {
             add_in(low, &mut row[behind..]);
         }

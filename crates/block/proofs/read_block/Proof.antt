@@ -1,20 +1,29 @@
--- `block::read_block`: as the corrector, and the code word's check bits. Assumes nothing.
-use Rattle.block.specs.Corrector.{Sized}
-use Rattle.block.proofs.Outcomes.{sized-so, not-sized, wrong-length, lacking, not-lacking, informed}
+-- `block::read_block`: as the corrector, with the code word's check bits before its bytes. Assumes nothing.
+use Rattle.block.specs.Bytes.{rowOf}
+use Rattle.block.specs.Corrector.{Near, Sized}
+use Rattle.block.proofs.Outcomes.{sized-so, not-sized, wrong-length, no-code-word}
 use Rattle.block.proofs.Blocks.{check-tested}
 use Rattle.code.proofs.Majority.{code-length}
 use Rattle.answers.specs.Numbers.{paper}
+use Prim.Native.Nat.{ℕ, _*_}
+use lib.ListN.{take}
 use native.Mathlib.Omega.{arith}
-use mathlib.Core.Logic.{inl, inr}
 use mathlib.Core.Bool.{false≢true}
+use mathlib.Core.Logic.{inl, inr}
 use mathlib.Core.Path.{refl, sym, ap, _∙_}
 use borrow.Author.Needs.{needs}
+use borrow.Author.Tests.{not-true, not-false}
 use Rattle.block.proofs.read_block.Statement.{statement}
 use Rattle.block.proofs.read_block.Tie as tie
 
 -- the lengths are right
 sized : (c : tie.Else1) → let a = c .before .before .before .args in Sized 34 22 (a .received .now) (a .out .now)
 sized c = sized-so 34 22 _ _ (c .if1 .left)
+
+-- a code word was found
+found : (c : tie.Else2)
+    → let n = c .before .before in Near (rowOf (n .before .before .before .before .args .received .now)) (n .nearest .result .word) (n .nearest .result .count)
+found c = c .before .before .nearest .ensures .met (not-false _ (c .if2 .left))
 
 refused-requires : tie.Need-refused-requires
 refused-requires c κs = search needs
@@ -25,37 +34,58 @@ returns c = inl (wrong-length _ _ _ _ _ (not-sized 34 22 _ _ (c .before .if1 .ta
 nearest-requires : tie.Need-nearest-requires
 nearest-requires c κs = sized c .input
 
-lacks-check-requires : tie.Need-lacks-check-requires
-lacks-check-requires c κs = search needs
+refused-requires-2 : tie.Need-refused-requires-2
+refused-requires-2 c κs = search needs
 
 returns-2 : tie.Need-returns-2
 returns-2 c =
-    let n = c .before .before .nearest in
-    let w = n .result .word in
-    let k = lacking _ _ _ (c .before .lacks-check .ensures) (c .if2 .taken) in
-    let near = n .ensures .met (k .0) in
+    let n = c .before .before .before in
+    inr (inl (no-code-word _ _ _ _ _ (sized (n .before)) (n .nearest .ensures .missed (not-true _ (c .before .if2 .taken))) (ap paper (c .refused2 .ensures .0)) (c .refused2 .ensures .1)))
+
+holds-requires : tie.Need-holds-requires
+holds-requires c κs = code-length _ (found (c .before .before) .code)
+
+returns-3 : tie.Need-returns-3
+returns-3 c =
+    let h = c .before in
+    let e = h .before .before .before in
+    let n = e .before .before in
     inr (inr (inl (record {
-      sized = sized (c .before .before .before);
-      word = w;
-      found = near;
-      wrong = λ r. false≢true (sym (k .1) ∙ check-tested w (code-length w (near .code)) .1 r);
+      sized = sized (n .before);
+      word = n .nearest .result .word;
+      found = found e;
+      wrong = λ r. false≢true (sym (not-true _ (c .if3 .taken)) ∙ h .holds .ensures ∙ check-tested (n .nearest .result .word) (code-length _ (found e .code)) .1 r);
       answers = refl;
       same = refl;
     })))
 
-put-word-requires : tie.Need-put-word-requires
-put-word-requires c κs = omega (arith, sized (c .before .before .before .before) .output)
+slice-aggregate-fill-bytes : tie.Need-slice-aggregate-fill-bytes
+slice-aggregate-fill-bytes c = search needs
+
+fill-bytes-requires : tie.Need-fill-bytes-requires
+fill-bytes-requires c κs =
+    let e = c .before .before .before .before .before .before in
+    omega (arith, sized (e .before .before .before) .output, code-length _ (found e .code))
 
 same-length : tie.Need-same-length
 same-length c = search needs
 
-returns-3 : tie.Need-returns-3
-returns-3 c =
-    let n = c .before .before .before .before .before .before .nearest in
-    let w = n .result .word in
-    informed _ _ _ _ _ (n .result .near) w (n .result .count) (n .ensures) (c .before .before .put-word .ensures) (c .before .before .put-word .kept .1 .0)
-    (sized (c .before .before .before .before .before .before .before))
-    (λ e. check-tested w (code-length w (n .ensures .met e .code)) .0 (not-lacking _ _ _ (c .before .before .before .before .before .lacks-check .ensures) (c .before .before .before .before .if2 .left) e))
+returns-4 : tie.Need-returns-4
+returns-4 c =
+    let f = c .before .before in
+    let i = f .before .before .before in
+    let e = i .before .before .before .before in
+    let n = e .before .before in
+    let z = sized (n .before) in
+    inr (inr (inr (record {
+      sized = z;
+      word = n .nearest .result .word;
+      found = found e;
+      right = check-tested (n .nearest .result .word) (code-length _ (found e .code)) .0 (sym (i .before .holds .ensures) ∙ not-false _ (i .if3 .left));
+      answers = refl;
+      long = f .fill-bytes .kept .1 .0 ∙ z .output;
+      given = f .fill-bytes .ensures ∙ ap (λ (m : ℕ). take (8 * m) (n .nearest .result .word)) (z .output);
+    })))
 
 pub read-block-spec : {M : Type 1} → statement M
 read-block-spec =
@@ -64,8 +94,11 @@ read-block-spec =
     refused-requires
     returns
     nearest-requires
-    lacks-check-requires
+    refused-requires-2
     returns-2
-    put-word-requires
+    holds-requires
+    returns-3
+    slice-aggregate-fill-bytes
+    fill-bytes-requires
     same-length
-    returns-3)
+    returns-4)

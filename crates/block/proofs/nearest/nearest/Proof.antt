@@ -8,11 +8,11 @@ use borrow.Author.Needs.{needs}
 use Rattle.block.proofs.nearest.nearest.Statement.{statement}
 use Rattle.block.proofs.nearest.nearest.Tie as tie
 
-slice-aggregate-unpack : tie.Need-slice-aggregate-unpack
-slice-aggregate-unpack c = search needs
+slice-aggregate-fill-row : tie.Need-slice-aggregate-fill-row
+slice-aggregate-fill-row c = search needs
 
-unpack-requires : tie.Need-unpack-requires
-unpack-requires c κs = search needs
+fill-row-requires : tie.Need-fill-row-requires
+fill-row-requires c κs = search needs
 
 search-requires : tie.Need-search-requires
 search-requires c κs = search needs
@@ -22,7 +22,7 @@ returns c =
     let u = c .before .before .before in
     let s = u .before .before .before in
     let r = c .search .result in
-    subst (λ (row : List Bool). Searched row (r .near) (r .word) (r .count)) (u .unpack .ensures ∙ whole-row (s .args .received .now) (s .pre)) (c .search .ensures)
+    subst (λ (row : List Bool). Searched row (r .near) (r .word) (r .count)) (u .fill-row .ensures ∙ whole-row (s .args .received .now) (s .pre)) (c .search .ensures)
 
 pub nearest-spec : {M : Type 1} → statement M
-nearest-spec = tie.close (tie.spec slice-aggregate-unpack unpack-requires search-requires returns)
+nearest-spec = tie.close (tie.spec slice-aggregate-fill-row fill-row-requires search-requires returns)

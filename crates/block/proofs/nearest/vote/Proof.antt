@@ -1,5 +1,5 @@
 -- `block::nearest::vote`: the places below p hold the vote's bits. Assumes nothing.
-use Rattle.code.specs.Vote.{bitAt, paritySums, oddSums, voted}
+use Rattle.code.specs.Vote.{bitAt, paritySums, oddSums, majority, voted}
 use Rattle.gf2.proofs.Lists.{Filled, filled-more, row-filled}
 use Rattle.gf2.specs.Poly.{_⊕_}
 use lib.ListN.{length, length-set, length-replicate}
@@ -13,7 +13,7 @@ use Rattle.block.proofs.nearest.vote.Statement.{statement}
 use Rattle.block.proofs.nearest.vote.Tie as tie
 
 abbrev Inv-loop : tie.InvT-loop
-Inv-loop row positions sums word₀ p₀ word p = (p ≤ 272) × (length word ≡ 272) × Filled false (λ i. bitAt row i ⊕ leb 9 (oddSums (paritySums row) i)) word p
+Inv-loop row positions sums word₀ p₀ word p = (p ≤ 272) × (length word ≡ 272) × Filled false (λ i. bitAt row i ⊕ leb majority (oddSums (paritySums row) i)) word p
 
 abbrev μ-loop : tie.MeasureT-loop
 μ-loop row positions sums word₀ p₀ word p = 272 - p
@@ -51,8 +51,8 @@ loop-again c =
     let row = h .before .before .before .before .args .row .now in (
       search needs,
       length-set (h .loop .word) (h .loop .p) (c .sum .result) ∙ h .loop .inv .1,
-      filled-more false (λ i. bitAt row i ⊕ leb 9 (oddSums (paritySums row) i)) (h .loop .word) (h .loop .p) (c .sum .result) (omega arith)
-          (c .sum .ensures ∙ ap (λ (n : ℕ). bitAt row (h .loop .p) ⊕ leb 9 n)
+      filled-more false (λ i. bitAt row i ⊕ leb majority (oddSums (paritySums row) i)) (h .loop .word) (h .loop .p) (c .sum .result) (omega arith)
+          (c .sum .ensures ∙ ap (λ (n : ℕ). bitAt row (h .loop .p) ⊕ leb majority n)
           (c .before .odd-sums .ensures ∙ ap (λ sums. oddSums sums (h .loop .p)) (h .before .parity-sums .ensures)))
           (h .loop .inv .2),
     )
@@ -62,7 +62,7 @@ unfolding voted
 returns c =
     let l = c .before in
     let row = l .before .before .before .before .args .row .now in
-    row-filled (λ i. bitAt row i ⊕ leb 9 (oddSums (paritySums row) i)) (l .loop .word) (length row) (l .loop .p) (omega arith) (omega arith) (l .loop .inv .2)
+    row-filled (λ i. bitAt row i ⊕ leb majority (oddSums (paritySums row) i)) (l .loop .word) (length row) (l .loop .p) (omega arith) (omega arith) (l .loop .inv .2)
 
 pub vote-spec : {M : Type 1} → statement M
 vote-spec =

@@ -1,4 +1,4 @@
--- `block::rows::pack`: the bytes below k are packed. Assumes nothing.
+-- `block::rows::fill_bytes`: the bytes below k are packed. Assumes nothing.
 use mathlib.Core.Path.{refl, _≡_, ap, _∙_}
 use Rattle.block.proofs.Bytes.{bytes-filled}
 use Rattle.block.specs.Bytes.{byteOf}
@@ -7,8 +7,8 @@ use lib.ListN.{length, take, drop, length-set}
 use borrow.Author.Needs.{needs}
 use native.Mathlib.Omega.{arith}
 use Prim.Native.Nat.{ℕ, _≤_, _-_, _*_}
-use Rattle.block.proofs.rows.pack.Statement.{statement}
-use Rattle.block.proofs.rows.pack.Tie as tie
+use Rattle.block.proofs.rows.fill_bytes.Statement.{statement}
+use Rattle.block.proofs.rows.fill_bytes.Tie as tie
 
 abbrev Inv-loop : tie.InvT-loop
 Inv-loop row out₀ k₀ out k = (k ≤ length out₀) × (length out ≡ length out₀) × Filled 0 (λ i. byteOf (take 8 (drop (8 * i) row))) out k
@@ -53,8 +53,8 @@ returns c =
     bytes-filled (a .row .now) (l .loop .out) (l .loop .k) (omega arith) (omega arith) (l .loop .inv .2)
     ∙ ap (λ (n : ℕ). take (8 * n) (a .row .now)) (l .loop .inv .1)
 
-pub pack-spec : {M : Type 1} → statement M
-pack-spec =
+pub fill-bytes-spec : {M : Type 1} → statement M
+fill-bytes-spec =
     tie.close
     (tie.spec
     Inv-loop

@@ -1,6 +1,6 @@
--- `block::rows::unpack`: the places below p hold the bits of the bytes, the rest is as it was. Assumes nothing.
+-- `block::rows::fill_row`: the places below p hold the bits of the bytes, the rest is as it was. Assumes nothing.
 use Rattle.block.proofs.Bytes.{length-rowOf, getD-rowOf}
-use Rattle.block.specs.Bytes.{rowOf}
+use Rattle.block.specs.Bytes.{bitOf, rowOf}
 use Rattle.gf2.proofs.Lists.{front-turn}
 use lib.Seq.{take-all}
 use lib.ListN.{length, take, drop, length-set}
@@ -10,8 +10,8 @@ use Prim.Native.Nat.{_≤_, _-_, _*_}
 use mathlib.Core.List.{_++_}
 use mathlib.Core.Bool.{false}
 use mathlib.Core.Path.{_≡_, refl, sym, _∙_}
-use Rattle.block.proofs.rows.unpack.Statement.{statement}
-use Rattle.block.proofs.rows.unpack.Tie as tie
+use Rattle.block.proofs.rows.fill_row.Statement.{statement}
+use Rattle.block.proofs.rows.fill_row.Tie as tie
 
 abbrev Inv-loop : tie.InvT-loop
 Inv-loop bytes row₀ places p₀ row p = (p ≤ places) × (length row ≡ length row₀) × (row ≡ take p (rowOf bytes) ++ drop p row₀)
@@ -25,8 +25,14 @@ mul-places c = search needs
 loop-holds : tie.Need-loop-holds Inv-loop μ-loop
 loop-holds c = (search needs, refl, refl)
 
-bit-at-requires : tie.Need-bit-at-requires Inv-loop μ-loop
-bit-at-requires c κs = search needs
+shared-slice-read-row : tie.Need-shared-slice-read-row Inv-loop μ-loop
+shared-slice-read-row c = search needs
+
+cast-row : tie.Need-cast-row Inv-loop μ-loop
+cast-row c = search needs
+
+shr-row : tie.Need-shr-row Inv-loop μ-loop
+shr-row c = search needs
 
 slice-write-row : tie.Need-slice-write-row Inv-loop μ-loop
 slice-write-row c = search needs
@@ -38,13 +44,14 @@ loop-less : tie.Need-loop-less Inv-loop μ-loop
 loop-less c = search needs
 
 loop-again : tie.Need-loop-again Inv-loop μ-loop
+unfolding bitOf
 loop-again c =
     let h = c .before .before in
-    let a = h .before .before .before .args in (
+    let a = h .before .args in (
       search needs,
-      length-set (h .loop .row) (h .loop .p) (c .bit-at .result) ∙ h .loop .inv .1,
-      front-turn (rowOf (a .bytes .now)) (a .row .now) (h .loop .row) (h .loop .p) (c .bit-at .result) false (omega (arith, length-rowOf (a .bytes .now))) (omega arith)
-          (c .bit-at .ensures ∙ sym (getD-rowOf (a .bytes .now) (h .loop .p) (omega arith))) (h .loop .inv .2),
+      length-set (h .loop .row) (h .loop .p) _ ∙ h .loop .inv .1,
+      front-turn (rowOf (a .bytes .now)) (a .row .now) (h .loop .row) (h .loop .p) _ false (omega (arith, length-rowOf (a .bytes .now))) (omega arith)
+          (sym (getD-rowOf (a .bytes .now) (h .loop .p) (omega arith))) (h .loop .inv .2),
     )
 
 same-length : tie.Need-same-length Inv-loop μ-loop
@@ -53,19 +60,21 @@ same-length c = search needs
 returns : tie.Need-returns Inv-loop μ-loop
 returns c =
     let l = c .before in
-    let a = l .before .before .before .args in
+    let a = l .before .args in
     let done : l .loop .p ≡ 8 * length (a .bytes .now) = omega arith in
     l .loop .inv .2 ∙ (λ i. take-all (l .loop .p) (rowOf (a .bytes .now)) (omega (arith, length-rowOf (a .bytes .now))) i ++ drop (done i) (a .row .now))
 
-pub unpack-spec : {M : Type 1} → statement M
-unpack-spec =
+pub fill-row-spec : {M : Type 1} → statement M
+fill-row-spec =
     tie.close
     (tie.spec
     Inv-loop
     μ-loop
     mul-places
     loop-holds
-    bit-at-requires
+    shared-slice-read-row
+    cast-row
+    shr-row
     slice-write-row
     add-p
     loop-less
