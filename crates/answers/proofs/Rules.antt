@@ -13,9 +13,9 @@ pub unless-elim : {A : Type 0} (P : A → Type 0) (b : Bool) (x y : A) → P x �
 unless-elim P true x y px py = py refl
 unless-elim P false x y px py = px
 
-pub cond-elim {ℓ} : {A : Type ℓ} (P : Bool → A → Type 0) (b : Bool) {x y : A} → (b ≡ true → P true x) → (b ≡ false → P false y) → P b (cond b x y)
-cond-elim P true px py = px refl
-cond-elim P false px py = py refl
+pub cond-with {ℓ} : {A : Type ℓ} (P : A → Type 0) (b : Bool) {x y : A} → (b ≡ true → P x) → (b ≡ false → P y) → P (cond b x y)
+cond-with P true px py = px refl
+cond-with P false px py = py refl
 
 -- what never holds of a test's refusal has, where it holds, passed the test
 pub unless-passed : {A : Type 0} (P : A → Type 0) (b : Bool) (x y : A) → (P x → ⊥) → P (unless b x y) → (b ≡ true) × P y

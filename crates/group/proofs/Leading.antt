@@ -13,7 +13,7 @@ use Rattle.group.specs.Answers.{Outcome, taken, whole, refused, GroupAft
 use Rattle.group.specs.State.{idle, keepsRule, messageFits, isIdle, joinedOn, joinOf}
 use Rattle.group.specs.Leading.{Message, GroupAndBuffer, JoinResult, toldResult, joinMessage, leftBy, Joins, joinedTo, changesNothing, joinedAfter, joinedBy, Leads}
 use Rattle.group.specs.declared.Group.{Group}
-use Rattle.answers.proofs.Rules.{unless-elim, cond-elim}
+use Rattle.answers.proofs.Rules.{unless-elim, cond-with}
 use Rattle.answers.proofs.Runs.{runOf, run-told}
 use Rattle.group.proofs.Laws.{rule-room}
 
@@ -46,7 +46,7 @@ module _ (g : Group) (buffer : List ℕ) (m : Message) where
       let d = take (b .held) buffer ++ m .bytes in
       let n = front-length buffer (m .bytes) (b .held) h in
       let f = front buffer (m .bytes) (b .held) h in
-      cond-elim (λ _. Told d) (m .fields .last) (λ _. (sym n, f, ap idle e))
+      cond-with (Told d) (m .fields .last) (λ _. (sym n, f, ap idle e))
       λ _. (sym n, ap (λ (k : ℕ). take k (paste buffer (b .held) (m .bytes) (length (m .bytes)))) n ∙ f)
 
   told : Told (joinedTo (take (g .held) buffer) m) (joinOf g (m .fields) (m .bytes) buffer)
@@ -58,8 +58,9 @@ module _ (g : Group) (buffer : List ℕ) (m : Message) where
       unless-elim (Told d) (messageFits (m .fields) (length (m .bytes))) _ _ (refl, refl) λ _.
       unless-elim (Told d) (eqb (m .fields .number) (g .number)) _ _ (refl, refl) λ _.
       unless-elim (Told d) (not (m .fields .command)) _ _ (refl, refl) λ _.
-      cond-elim (λ b. Told (cond b (m .bytes) (take (g .held) buffer ++ m .bytes))) (m .fields .first) (λ _. joined-told (idle (g .number)) refl (omega arith))
-      (λ _. let e = take (g .held) buffer ++ m .bytes in
+      cond-with (Told d) (m .fields .first) (λ first. rw first (joined-told (idle (g .number)) refl (omega arith)))
+      λ first. rw first
+      (let e = take (g .held) buffer ++ m .bytes in
       unless-elim (Told e) (not (isIdle (g .phase))) _ _ (refl, refl) λ _.
       unless-elim (Told e) (eqb (m .fields .ci) ((g .ci + 1) % 4)) _ _ (refl, refl) λ _.
       unless-elim (Told e) (ltb (g .messages) 15) _ _ (refl, refl) λ _.

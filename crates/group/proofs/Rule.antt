@@ -8,7 +8,7 @@ use borrow.Author.Tests.{le-leb, leb-true, ltb-true}
 use lib.Dec.{eqb, leb, ltb}
 use lib.ListN.{length}
 use Rattle.channel.specs.declared.Fields.{Fields}
-use Rattle.answers.proofs.Rules.{unless-elim, cond-elim}
+use Rattle.answers.proofs.Rules.{unless-elim, cond-with}
 use Rattle.group.specs.Answers.{GroupAfter, Made}
 use Rattle.group.specs.State.{groupWith, idle, newOf, phaseHolds, keepsRule, messageFits, isIdle, joinedOn, joinOf}
 use Rattle.group.specs.declared.Group.{Group}
@@ -41,7 +41,7 @@ module _ (m : Fields) (s buffer : List ℕ) (fits : messageFits m (length s) ≡
   unfolding joinedOn
   joined-kept g hn hh hm =
       let b = within-bounds m (length s) fits in
-      cond-elim (λ _. Kept) (m .last) (λ _. idle-rule (g .number) hn)
+      cond-with Kept (m .last) (λ _. idle-rule (g .number) hn)
       λ _. gathering-rule (g .number) (g .held) (g .messages) (length s) (m .ci) hn hh hm (b .0) (b .1)
 
 pub rule-kept : (g : Group) (m : Fields) (s buffer : List ℕ) → keepsRule g ≡ true → keepsRule (joinOf g m s buffer .group) ≡ true
@@ -54,7 +54,7 @@ rule-kept g m s buffer rule =
     unless-elim Kept (messageFits m (length s)) _ _ rule λ fits.
     unless-elim Kept (eqb (m .number) (g .number)) _ _ rule λ _.
     unless-elim Kept (not (m .command)) _ _ rule λ _.
-    cond-elim (λ _. Kept) (m .first) (λ _. joined-kept m s buffer fits (idle (g .number)) n (omega arith) (omega arith)) λ _.
+    cond-with Kept (m .first) (λ _. joined-kept m s buffer fits (idle (g .number)) n (omega arith) (omega arith)) λ _.
     unless-elim Kept (not (isIdle (g .phase))) _ _ idles λ _.
     unless-elim Kept (eqb (m .ci) ((g .ci + 1) % 4)) _ _ idles λ _.
     unless-elim Kept (ltb (g .messages) 15) _ _ idles λ l.
