@@ -50,7 +50,7 @@ module _ (g : Group) (buffer : List ℕ) (m : Message) where
       λ _. (sym n, ap (λ (k : ℕ). take k (paste buffer (b .held) (m .bytes) (length (m .bytes)))) n ∙ f)
 
   told : Told (joinedTo (take (g .held) buffer) m) (joinOf g (m .fields) (m .bytes) buffer)
-  unfolding joinOf
+  unfolding joinOf joinedOn
   told =
       let d = joinedTo (take (g .held) buffer) m in
       unless-elim (Told d) (leb 3825 (length buffer)) _ _ (refl, refl) λ l.
