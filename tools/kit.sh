@@ -1,5 +1,7 @@
 # Shell functions for finding the Rattle kit and running a program that it compiled. Read by daphnorill and bench/run.
 
+machine=$(uname -m)
+
 # The folder of a file, with symbolic links followed.
 folder_of() { # FILE
     path=$1
@@ -20,12 +22,12 @@ kit_on_machine() {
         echo 'there is no rt on the PATH: install the Rattle kit, and put its bin folder there' >&2
         return 1
     fi
-    echo "$home/on/$(uname -m)"
+    echo "$home/on/$machine"
 }
 
 # Becomes a program that was compiled for x86-64: by itself there, and under the kit's emulator on another machine.
 exec_program() { # FILE ARGUMENT ..
-    if [ "$(uname -m)" = x86_64 ]; then exec "$@"; fi
+    if [ "$machine" = x86_64 ]; then exec "$@"; fi
     kit=$(kit_on_machine) || exit 2
     tools=$kit/toolchain
     if [ ! -x "$tools/bin/qemu-x86_64" ]; then
