@@ -91,11 +91,11 @@ field-none k s n e h g =
     drop-of-length-le s g ∙ sym (no-field (k - 1)) ∙ ap (fieldOf (k - 1)) (sym (drop-of-length-le s more)) ∙ field-behind k s n e h
 
 -- one byte more is decoded
-pub decoded : (s output : List ℕ) (i v : ℕ) → i < length output → 2 * i + 1 < length s
+pub decoded-more : (s output : List ℕ) (i v : ℕ) → i < length output → 2 * i + 1 < length s
     → v ≡ digitOf (getD s (2 * i) 0) * 16 + digitOf (getD s (2 * i + 1) 0)
     → take i output ++ decoded (drop (2 * i) s) ≡ decoded s
     → take (i + 1) (set output i v) ++ decoded (drop (2 * (i + 1)) s) ≡ decoded s
-decoded s output i v h k e sofar =
+decoded-more s output i v h k e sofar =
     let here : 2 * i < length s = omega arith in
     let two : drop (2 * i) s ≡ getD s (2 * i) 0 ∷ getD s (2 * i + 1) 0 ∷ drop (2 * i + 1 + 1) s = rw (next s (2 * i) here, next s (2 * i + 1) k) in
     let step : 2 * (i + 1) ≡ 2 * i + 1 + 1 = omega arith in

@@ -6,7 +6,7 @@ use mathlib.Core.Path.{_≡_, refl}
 use native.Mathlib.Omega.{arith}
 use lib.ListN.{length, getD, take, drop, length-set}
 use borrow.Author.Needs.{needs}
-use Rattle.text.proofs.Laws.{decoded, kept, decoded-all, a-digit}
+use Rattle.text.proofs.Laws.{decoded-more, kept, decoded-all, a-digit}
 use Rattle.text.specs.Hexadecimal.{digitOf, decoded}
 use Rattle.text.proofs.hexadecimal.decode.Statement.{statement}
 use Rattle.text.proofs.hexadecimal.decode.Tie as tie
@@ -71,7 +71,7 @@ loop-again c =
     let value : c .before .before .value .result * 16 + c .value2 .result ≡ digitOf (getD s (2 * i) 0) * 16 + digitOf (getD s (2 * i + 1) 0) = omega (arith, c .before .before .value .ensures, c .value2 .ensures) in (
       omega arith,
       simp length-set (p .loop .inv .1),
-      decoded s (p .loop .output) i _ (omega arith) (omega arith) value (p .loop .inv .2),
+      decoded-more s (p .loop .output) i _ (omega arith) (omega arith) value (p .loop .inv .2),
       kept (p .loop .output) (start .args .output .now) i _ (p .loop .inv .3),
     )
 
