@@ -5,6 +5,8 @@ ghost use Rattle.band.specs.Band.{isChannel, isFrequency, numberedOf, ki
 use answers::Answer;
 use answers::Refusal;
 
+pub const LAST_CHANNEL: u8 = 204;
+
 // A channel number, 1 to 204; 0 and 205 to 255 are reserved.
 pub struct Channel(pub u8);
 
@@ -77,7 +79,7 @@ pub fn to_channel(kilohertz: Kilohertz) -> ChannelAnswer
 pub fn is_channel(number: u32) -> bool
     ensures { λ r. ⌜ r ≡ isChannel number ⌝ }
 {
-    (1 <= number) & (number <= 204)
+    (1 <= number) & (number <= LAST_CHANNEL as u32)
 }
 
 fn is_frequency(frequency: u32) -> bool

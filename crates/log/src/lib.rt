@@ -35,6 +35,9 @@ pub struct LogRead {
     pub counts: Counts,
 }
 
+// The longest line, without its line feed.
+pub const LONGEST_LINE: usize = 63;
+
 pub enum Phase {
     Open,
     Refused,
@@ -45,7 +48,7 @@ pub enum Phase {
 pub struct Reader {
     pub phase: Phase,
     pub counts: Counts,
-    pub held: [u8; 63],
+    pub held: [u8; LONGEST_LINE],
     pub length: usize,
 }
 
