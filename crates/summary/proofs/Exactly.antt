@@ -18,7 +18,7 @@ use Rattle.log.proofs.Lists.{by-cases, cond-with}
 use Rattle.summary.specs.declared.Summary.{Summary}
 use Rattle.summary.specs.Report.{frequency}
 use Rattle.summary.specs.Export.{decimals, expansion, cell, sheetRow}
-use Rattle.summary.specs.Building.{Measured, Scaled, scaled}
+use Rattle.summary.specs.Building.{room, Measured, Scaled, scaled}
 use Rattle.summary.proofs.Fits.{Short, two, number-short, ended-short}
 use Rattle.summary.proofs.Expansion.{expansion-same, decimals-done, decimals-next}
 use Rattle.summary.proofs.Decode.{fieldOf, digitsOf, Decoded, decoded}
@@ -126,5 +126,5 @@ row-short c s m n =
     (two (ended-short 9 (cell-short (s .«mean_exists») (s .mean) m)) (ended-short 10 (cell-short (s .«missing_exists») (s .missing) n)))))))))))
 
 -- EVERY ROW FITS THE ROOM OF A TEXT
-pub row-fits : (c : Counts) (s : Summary) → Measured (s .mean) → Measured (s .missing) → length (sheetRow c s) ≤ 384
+pub row-fits : (c : Counts) (s : Summary) → Measured (s .mean) → Measured (s .missing) → length (sheetRow c s) ≤ room
 row-fits c s m n = omega (arith, row-short c s m n .most)

@@ -8,6 +8,7 @@ use Rattle.log.specs.declared.Counts.{Counts}
 use Rattle.log.specs.Decimal.{decimal}
 use Rattle.log.proofs.Decimal.{decimal-length}
 use Rattle.log.proofs.Lists.{cond-with}
+use Rattle.summary.specs.Building.{room}
 use Rattle.summary.specs.Report.{ended, line, frequency, thousandths, readLines, unreadLines, meanLine, reportOf}
 
 -- a text of at most n bytes
@@ -45,5 +46,5 @@ report-short c =
     (two (line-short _ (number-short (c .check))) (line-short _ (number-short (c .missing)))))
     (line-short _ (mean-short (c .bits) (c .read))))
 
-pub report-fits : (c : Counts) → length (reportOf c) ≤ 384
+pub report-fits : (c : Counts) → length (reportOf c) ≤ room
 report-fits c = omega (arith, report-short c .most)

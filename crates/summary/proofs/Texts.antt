@@ -10,8 +10,8 @@ use native.Mathlib.Nat.{min-eq-left, min-eq-right}
 use lib.Dec.{leb}
 use borrow.Author.Tests.{leb-true, leb-false}
 use Rattle.log.proofs.Lists.{by-cases}
-use Rattle.summary.specs.declared.text.Text.{Text}
-use Rattle.summary.specs.Building.{content, Grows}
+use Rattle.summary.specs.declared.building.Text.{Text}
+use Rattle.summary.specs.Building.{room, content, Grows}
 
 grow-take : (n : ℕ) (a b : List ℕ) → take n (take n a ++ b) ≡ take n (a ++ b)
 grow-take zero a b = refl
@@ -22,37 +22,37 @@ grow-take (suc n) (x ∷ a) b = ap (λ (l : List ℕ). x ∷ l) (grow-take n a b
 pub grows-then : {t u v : Text} {a b : List ℕ} → Grows t a u → Grows u b v → Grows t (a ++ b) v
 grows-then {t} {u} {v} {a} {b} g h =
     record {
-      text = h .text ∙ ap (λ (l : List ℕ). take 384 (l ++ b)) (g .text) ∙ grow-take 384 (content t ++ a) b
-          ∙ ap (take 384) (append-assoc (content t) a b);
+      text = h .text ∙ ap (λ (l : List ℕ). take room (l ++ b)) (g .text) ∙ grow-take room (content t ++ a) b
+          ∙ ap (take room) (append-assoc (content t) a b);
     }
 
 pub grows-same : {t u : Text} {a b : List ℕ} → a ≡ b → Grows t a u → Grows t b u
-grows-same {t} e g = record { text = g .text ∙ ap (λ (l : List ℕ). take 384 (content t ++ l)) e }
+grows-same {t} e g = record { text = g .text ∙ ap (λ (l : List ℕ). take room (content t ++ l)) e }
 
-pub content-fits : (t : Text) → length (t .bytes) ≡ 384 → length (content t) ≤ 384
+pub content-fits : (t : Text) → length (t .bytes) ≡ room → length (content t) ≤ room
 content-fits t f = omega (arith, length-take (t .length) (t .bytes), f)
 
-pub grows-empty : (t : Text) → length (content t) ≤ 384 → Grows t [] t
-grows-empty t f = record { text = sym (ap (take 384) (append-nil (content t)) ∙ take-all 384 (content t) f) }
+pub grows-empty : (t : Text) → length (content t) ≤ room → Grows t [] t
+grows-empty t f = record { text = sym (ap (take room) (append-nil (content t)) ∙ take-all room (content t) f) }
 
-pub grows-none : (t : Text) → length (t .bytes) ≡ 384 → Grows t [] t
+pub grows-none : (t : Text) → length (t .bytes) ≡ room → Grows t [] t
 grows-none t f = grows-empty t (content-fits t f)
 
 -- a byte where there is room, and one where there is none
-pub grows-byte : (t r : Text) (b : ℕ) → length (t .bytes) ≡ 384 → t .length < 384 → r .bytes ≡ set (t .bytes) (t .length) b → r .length ≡ t .length + 1
+pub grows-byte : (t r : Text) (b : ℕ) → length (t .bytes) ≡ room → t .length < room → r .bytes ≡ set (t .bytes) (t .length) b → r .length ≡ t .length + 1
     → Grows t (b ∷ []) r
 grows-byte t r b f h e n =
-    let l : length (content t ++ (b ∷ [])) ≤ 384 = omega (arith, length-append (content t) (b ∷ []), length-take-le (t .length) (t .bytes) (omega (arith, f))) in
+    let l : length (content t ++ (b ∷ [])) ≤ room = omega (arith, length-append (content t) (b ∷ []), length-take-le (t .length) (t .bytes) (omega (arith, f))) in
     record {
       text = ap (λ (k : ℕ). take k (r .bytes)) (n ∙ add-one (t .length)) ∙ ap (take (suc (t .length))) e
-          ∙ take-suc-set (t .bytes) (t .length) b (omega (arith, f)) ∙ sym (take-all 384 (content t ++ (b ∷ [])) l);
+          ∙ take-suc-set (t .bytes) (t .length) b (omega (arith, f)) ∙ sym (take-all room (content t ++ (b ∷ [])) l);
     }
 
-pub grows-full : (t : Text) (b : ℕ) → length (t .bytes) ≡ 384 → 384 ≤ t .length → Grows t (b ∷ []) t
+pub grows-full : (t : Text) (b : ℕ) → length (t .bytes) ≡ room → room ≤ t .length → Grows t (b ∷ []) t
 grows-full t b f h =
     let e : content t ≡ t .bytes = take-all (t .length) (t .bytes) (omega (arith, f)) in
-    let l : length (content t) ≡ 384 = ap length e ∙ f in
-    record { text = sym (take-append-le 384 (content t) (b ∷ []) (omega arith) ∙ take-all 384 (content t) (omega arith)) }
+    let l : length (content t) ≡ room = ap length e ∙ f in
+    record { text = sym (take-append-le room (content t) (b ∷ []) (omega arith) ∙ take-all room (content t) (omega arith)) }
 
 -- one byte more of a part
 pub grows-next : {t u v : Text} (s : List ℕ) (i : ℕ) → i < length s → Grows t (take i s) u → Grows u (getD s i 0 ∷ []) v → Grows t (take (i + 1) s) v
@@ -62,8 +62,8 @@ pub grows-all : {t u : Text} (s : List ℕ) (i : ℕ) → length s ≤ i → Gro
 grows-all s i h g = grows-same (take-all i s h) g
 
 -- the whole text, where it fits
-pub grows-whole : {t u : Text} {s : List ℕ} → content t ≡ [] → length s ≤ 384 → Grows t s u → content u ≡ s
-grows-whole {t} {u} {s} e h g = g .text ∙ ap (λ (l : List ℕ). take 384 (l ++ s)) e ∙ take-all 384 s h
+pub grows-whole : {t u : Text} {s : List ℕ} → content t ≡ [] → length s ≤ room → Grows t s u → content u ≡ s
+grows-whole {t} {u} {s} e h g = g .text ∙ ap (λ (l : List ℕ). take room (l ++ s)) e ∙ take-all room s h
 
 take-least : (n : ℕ) (l : List ℕ) (m : ℕ) → length l ≤ m → take (min n m) l ≡ take n l
 take-least n l m h =
@@ -73,7 +73,7 @@ take-least n l m h =
     ap (λ (j : ℕ). take j l) (min-eq-right {n = m} {m = n} (omega arith)) ∙ take-all m l h ∙ sym (take-all n l (omega arith)))
 
 -- the text that a copy delivers
-pub content-least : (t : Text) → length (t .bytes) ≡ 384 → (take (min (t .length) 384) (t .bytes) ≡ content t) × (length (content t) ≡ min (t .length) 384)
+pub content-least : (t : Text) → length (t .bytes) ≡ room → (take (min (t .length) room) (t .bytes) ≡ content t) × (length (content t) ≡ min (t .length) room)
 content-least t f =
-    let l : length (content t) ≡ min (t .length) 384 = length-take (t .length) (t .bytes) ∙ ap (min (t .length)) f in
-    (take-least (t .length) (t .bytes) 384 (omega (arith, f)), l)
+    let l : length (content t) ≡ min (t .length) room = length-take (t .length) (t .bytes) ∙ ap (min (t .length)) f in
+    (take-least (t .length) (t .bytes) room (omega (arith, f)), l)

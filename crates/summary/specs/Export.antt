@@ -6,9 +6,10 @@ use lib.Dec.{eqb}
 use lib.Ieee.{Float, binary64, toBits}
 use lib.Ieee.Positive.{num, den}
 use Rattle.answers.specs.Rules.{unless}
+use Rattle.text.specs.Ascii.{byte, tab, lineFeed}
 use Rattle.log.specs.declared.Counts.{Counts}
 use Rattle.log.specs.Decimal.{decimal}
-use Rattle.log.specs.Log.{tab, lineFeed, isCounts}
+use Rattle.log.specs.Log.{isCounts}
 use Rattle.summary.specs.declared.Summary.{Summary}
 use Rattle.summary.specs.Summary.{summaryOf}
 use Rattle.summary.specs.Report.{ended, frequency, ToldText, notDelivered, delivered}
@@ -16,11 +17,11 @@ use Rattle.summary.specs.Report.{ended, frequency, ToldText, notDelivere
 -- the decimals of r / d by long division, until nothing is left of r, and at most so many
 unfoldable pub decimals : ℕ → ℕ → ℕ → List ℕ
 decimals zero r d = []
-decimals (suc more) r d = cond (eqb r 0) [] ((48 + 10 * r / d) ∷ decimals more (10 * r % d) d)
+decimals (suc more) r d = cond (eqb r 0) [] ((byte "0" + 10 * r / d) ∷ decimals more (10 * r % d) d)
 
 -- a / c in full: no exponent, no zeros at the end, and no point where there is no fraction; a binary64 has at most 1,074 decimals
 unfoldable pub expansion : ℕ → ℕ → List ℕ
-expansion a c = decimal (a / c) ++ cond (eqb (a % c) 0) [] (46 ∷ decimals 1074 (a % c) c)
+expansion a c = decimal (a / c) ++ cond (eqb (a % c) 0) [] (byte "." ∷ decimals 1074 (a % c) c)
 
 -- what exists is written exactly, as the fraction `num` / `den` that it is; what does not exist is an empty cell
 unfoldable pub cell : Bool → Float → List ℕ

@@ -1,7 +1,7 @@
 // The summary of a log's counts: the record for the spreadsheet, the report's text and the spreadsheet's row (document 01, "The log and
 // its report").
 mod binary;
-mod text;
+mod building;
 
 ghost use mathlib.Core.Path.{_≡_};
 ghost use mathlib.Core.Bool.{true};
@@ -15,8 +15,8 @@ ghost use Rattle.log.specs.Log.{isCounts};
 use answers::Answer;
 use answers::Refusal;
 use band::Channel;
+use building::Text;
 use log::Counts;
-use text::Text;
 
 // The mean of corrected bits over the blocks that were read, and the share of the slots in which nothing was received, each beside
 // the flag that says whether it exists. With a clear flag the number is positive zero.
@@ -86,7 +86,7 @@ pub fn report(counts: Counts, out: &mut [u8]) -> Written
     ensures { λ r. ⌜ toldText r (now (out .exit)) ≡ reportedOf counts (now (out .entry)) ⌝ }
 {
     if log::is_counts(counts) {
-        return text::deliver(report_text(counts), out);
+        return building::deliver(report_text(counts), out);
     }
     Written {
         answer: Answer::Refused(Refusal::OutsideRule),
@@ -102,7 +102,7 @@ pub fn export(counts: Counts, summary: Summary, out: &mut [u8]) -> Written
 {
     if log::is_counts(counts) {
         if is_summary(summary, counts) {
-            return text::deliver(row_text(counts, summary), out);
+            return building::deliver(row_text(counts, summary), out);
         }
     }
     Written {
@@ -114,26 +114,26 @@ pub fn export(counts: Counts, summary: Summary, out: &mut [u8]) -> Written
 fn report_text(counts: Counts) -> Text
     ensures { λ r. ⌜ content r ≡ reportOf counts ⌝ }
 {
-    let read = put_read(text::empty(), counts);
+    let read = put_read(building::empty(), counts);
     put_mean(put_unread(read, counts), counts)
 }
 
 fn put_read(text: Text, counts: Counts) -> Text
     ensures { λ r. ⌜ Grows text (readLines counts) r ⌝ }
 {
-    let khz = text::put_line(text, b"khz", frequency(counts.channel));
-    let slots = text::put_line(khz, b"slots", counts.slots);
-    let read = text::put_line(slots, b"read", counts.read);
-    let clean = text::put_line(read, b"clean", counts.clean);
-    text::put_line(clean, b"bits", counts.bits)
+    let khz = building::put_line(text, b"khz", frequency(counts.channel));
+    let slots = building::put_line(khz, b"slots", counts.slots);
+    let read = building::put_line(slots, b"read", counts.read);
+    let clean = building::put_line(read, b"clean", counts.clean);
+    building::put_line(clean, b"bits", counts.bits)
 }
 
 fn put_unread(text: Text, counts: Counts) -> Text
     ensures { λ r. ⌜ Grows text (unreadLines counts) r ⌝ }
 {
-    let noword = text::put_line(text, b"noword", counts.noword);
-    let check = text::put_line(noword, b"check", counts.check);
-    text::put_line(check, b"missing", counts.missing)
+    let noword = building::put_line(text, b"noword", counts.noword);
+    let check = building::put_line(noword, b"check", counts.check);
+    building::put_line(check, b"missing", counts.missing)
 }
 
 fn frequency(channel: u8) -> u32
@@ -146,12 +146,12 @@ fn frequency(channel: u8) -> u32
 fn put_mean(text: Text, counts: Counts) -> Text
     ensures { λ r. ⌜ Grows text (meanLine counts) r ⌝ }
 {
-    let named = text::put(text, b"mean\t");
+    let named = building::put(text, b"mean\t");
     if counts.read == 0 {
-        return text::put(named, b"-\n");
+        return building::put(named, b"-\n");
     }
     let thousandths = 1000 * (counts.bits as u64) / (counts.read as u64);
-    text::put_byte(text::put_number(named, thousandths), b'\n')
+    building::put_byte(building::put_number(named, thousandths), b'\n')
 }
 
 // Whether the record is the summary of the counts, bit for bit.
@@ -171,20 +171,20 @@ fn row_text(counts: Counts, summary: Summary) -> Text
     requires { ⌜ summary ≡ summaryOf counts ⌝ }
     ensures { λ r. ⌜ content r ≡ sheetRow counts summary ⌝ }
 {
-    let channel = text::put_field(text::empty(), counts.channel as u32, b'\t');
-    let khz = text::put_field(channel, frequency(counts.channel), b'\t');
-    let slots = text::put_field(khz, counts.slots, b'\t');
-    let read = text::put_field(slots, counts.read, b'\t');
-    let clean = text::put_field(read, counts.clean, b'\t');
-    let bits = text::put_field(clean, counts.bits, b'\t');
-    let noword = text::put_field(bits, counts.noword, b'\t');
-    let check = text::put_field(noword, counts.check, b'\t');
-    let missing = text::put_field(check, counts.missing, b'\t');
-    let mean = text::put_byte(
+    let channel = building::put_field(building::empty(), counts.channel as u32, b'\t');
+    let khz = building::put_field(channel, frequency(counts.channel), b'\t');
+    let slots = building::put_field(khz, counts.slots, b'\t');
+    let read = building::put_field(slots, counts.read, b'\t');
+    let clean = building::put_field(read, counts.clean, b'\t');
+    let bits = building::put_field(clean, counts.bits, b'\t');
+    let noword = building::put_field(bits, counts.noword, b'\t');
+    let check = building::put_field(noword, counts.check, b'\t');
+    let missing = building::put_field(check, counts.missing, b'\t');
+    let mean = building::put_byte(
         binary::put_cell(missing, summary.mean_exists, summary.mean),
         b'\t',
     );
-    text::put_byte(
+    building::put_byte(
         binary::put_cell(mean, summary.missing_exists, summary.missing),
         b'\n',
     )

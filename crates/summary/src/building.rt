@@ -14,7 +14,7 @@ use answers::Refusal;
 const ROOM: usize = 384;
 
 pub struct Text {
-    pub bytes: [u8; 384],
+    pub bytes: [u8; ROOM],
     pub length: usize,
 }
 
@@ -22,7 +22,7 @@ pub(crate) fn empty() -> Text
     ensures { λ r. ⌜ content r ≡ [] ⌝ }
 {
     Text {
-        bytes: [0; 384],
+        bytes: [0; ROOM],
         length: 0,
     }
 }
@@ -57,9 +57,9 @@ pub(crate) fn put_number(text: Text, number: u64) -> Text
     ensures { λ r. ⌜ Grows text (decimal number) r ⌝ }
 {
     if number < 10 {
-        return put_byte(text, 48 + number as u8);
+        return put_byte(text, b'0' + number as u8);
     }
-    put_byte(put_number(text, number / 10), 48 + (number % 10) as u8)
+    put_byte(put_number(text, number / 10), b'0' + (number % 10) as u8)
 }
 
 // A number and the mark that ends it.
