@@ -1,16 +1,25 @@
 -- Laws of a text that is built and delivered. Assumes nothing.
 use Prim.Native.Nat.{ℕ, suc, zero, _+_, _<_, _≤_, min}
-use mathlib.Core.Path.{_≡_, refl, ap, sym, _∙_}
+use mathlib.Core.Path.{_≡_, refl, ap, sym, _∙_, subst}
+use mathlib.Core.Bool.{Bool, true, false}
 use mathlib.Core.List.{List, [], _∷_, _++_, append-assoc, append-nil}
 use native.Mathlib.Numerals.{add-one}
 use native.Mathlib.Omega.{arith}
-use lib.ListN.{length, getD, take, set, length-take, length-append}
+use lib.ListN.{length, getD, take, drop, set, length-take, length-append}
 use lib.Seq.{take-all, take-suc, take-suc-set, take-append-le, length-take-le}
 use native.Mathlib.Nat.{min-eq-left, min-eq-right}
 use lib.Dec.{leb}
 use borrow.Author.Tests.{leb-true, leb-false}
 use Rattle.log.proofs.Lists.{by-cases}
+use Rattle.answers.specs.declared.Answer.{Answer}
+use Rattle.answers.specs.declared.Answer.the-variants.{Accepted, Refused}
+use Rattle.answers.specs.declared.Refusal.{Refusal}
+use Rattle.answers.specs.Numbers.{numberOf, paper}
+use Rattle.answers.specs.Rules.{unless}
+use Rattle.log.specs.declared.LogRead.{LogRead}
 use Rattle.summary.specs.declared.building.Text.{Text}
+use Rattle.summary.specs.declared.Written.{Written}
+use Rattle.summary.specs.Report.{ToldText, toldText, notDelivered, delivered, Within, refusalLine, orRefusal}
 use Rattle.summary.specs.Building.{room, content, Grows}
 
 grow-take : (n : ℕ) (a b : List ℕ) → take n (take n a ++ b) ≡ take n (a ++ b)
@@ -77,3 +86,28 @@ pub content-least : (t : Text) → length (t .bytes) ≡ room → (take (min (t 
 content-least t f =
     let l : length (content t) ≡ min (t .length) room = length-take (t .length) (t .bytes) ∙ ap (min (t .length)) f in
     (take-least (t .length) (t .bytes) room (omega (arith, f)), l)
+
+enough : (counted : Bool) (text out : List ℕ) → let t = unless counted (notDelivered 11 out) (delivered text out) in t .length ≤ length (t .out)
+enough false text out = omega arith
+enough true text out =
+    by-cases _ (leb (length text) (length out)) (λ e. rw e (omega (arith, length-append text (drop (length text) out)))) (λ e. rw e (omega arith))
+
+-- what was delivered stands in the output
+within : (r : Written) (x : List ℕ) (counted : Bool) (text out : List ℕ) → toldText r x ≡ unless counted (notDelivered 11 out) (delivered text out)
+    → Within (r .length) x
+within r x counted text out e =
+    let n : r .length ≤ length x = subst (λ (t : ToldText). t .length ≤ length (t .out)) (sym e) (enough counted text out) in
+    (n, sym (length-take-le (r .length) x n))
+
+-- what a program writes of an accepted log, and of one that was refused
+pub accepted-told : (log : LogRead) (r : Written) (x : List ℕ) (counted : Bool) (text out : List ℕ) → log .answer ≡ Accepted
+    → toldText r x ≡ unless counted (notDelivered 11 out) (delivered text out)
+    → (toldText r x ≡ orRefusal (paper (log .answer)) (log .line) out (unless counted (notDelivered 11 out) (delivered text out))) × Within (r .length) x
+accepted-told log r x counted text out a e =
+    (e ∙ sym (ap (λ (b : Answer). orRefusal (paper b) (log .line) out (unless counted (notDelivered 11 out) (delivered text out))) a), within r x counted text out e)
+
+pub refused-told : (log : LogRead) (r : Written) (x : List ℕ) (refusal : Refusal) (out : List ℕ) (t : ToldText) → log .answer ≡ Refused refusal
+    → toldText r x ≡ delivered (refusalLine (numberOf refusal) (log .line)) out
+    → (toldText r x ≡ orRefusal (paper (log .answer)) (log .line) out t) × Within (r .length) x
+refused-told log r x refusal out t a e =
+    (e ∙ sym (ap (λ (b : Answer). orRefusal (paper b) (log .line) out t) a), within r x true (refusalLine (numberOf refusal) (log .line)) out e)

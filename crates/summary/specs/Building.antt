@@ -14,7 +14,7 @@ use Rattle.summary.specs.declared.building.Text.{Text}
 
 -- the bytes that a text has room for
 abbrev pub room : ℕ
-room = 384
+room = 512
 
 abbrev pub content : Text → List ℕ
 content t = take (t .length) (t .bytes)

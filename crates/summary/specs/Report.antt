@@ -1,14 +1,16 @@
 -- Document 01, "The log and its report": the report's nine lines. Assumes nothing.
-use Prim.Native.Nat.{ℕ, _*_, _/_}
+use Prim.Native.Nat.{ℕ, _*_, _/_, _≤_}
 use mathlib.Core.Bool.{cond}
 use mathlib.Core.List.{List, [], _∷_, _++_}
-use lib.ListN.{length, drop}
+use mathlib.Core.Path.{_≡_}
+use lib.ListN.{length, take, drop}
 use lib.Dec.{leb, eqb}
 use Rattle.answers.specs.Numbers.{Paper, accepted, refused, paper}
 use Rattle.answers.specs.Rules.{unless}
 use Rattle.band.specs.Band.{kilohertzOf}
 use Rattle.text.specs.Ascii.{ascii, tab, lineFeed}
 use Rattle.log.specs.declared.Counts.{Counts}
+use Rattle.log.specs.declared.LogRead.{LogRead}
 use Rattle.log.specs.Decimal.{decimal}
 use Rattle.log.specs.Log.{isCounts}
 use Rattle.summary.specs.declared.Written.{Written}
@@ -29,26 +31,18 @@ frequency counts = kilohertzOf (record { 0 = counts .channel }) .number
 unfoldable pub thousandths : ℕ → ℕ → List ℕ
 thousandths bits read = cond (eqb read 0) (ascii "-") (decimal (1000 * bits / read))
 
-unfoldable pub readLines : Counts → List ℕ
-readLines counts =
+-- the whole report, in this order
+unfoldable pub reportOf : Counts → List ℕ
+reportOf counts =
     line (ascii "khz") (decimal (frequency counts))
     ++ (line (ascii "slots") (decimal (counts .slots))
     ++ (line (ascii "read") (decimal (counts .read))
     ++ (line (ascii "clean") (decimal (counts .clean))
-    ++ line (ascii "bits") (decimal (counts .bits)))))
-
-unfoldable pub unreadLines : Counts → List ℕ
-unreadLines counts =
-    line (ascii "noword") (decimal (counts .noword))
+    ++ (line (ascii "bits") (decimal (counts .bits))
+    ++ (line (ascii "noword") (decimal (counts .noword))
     ++ (line (ascii "check") (decimal (counts .check))
-    ++ line (ascii "missing") (decimal (counts .missing)))
-
-unfoldable pub meanLine : Counts → List ℕ
-meanLine counts = line (ascii "mean") (thousandths (counts .bits) (counts .read))
-
--- the nine lines
-unfoldable pub reportOf : Counts → List ℕ
-reportOf counts = readLines counts ++ (unreadLines counts ++ meanLine counts)
+    ++ (line (ascii "missing") (decimal (counts .missing))
+    ++ line (ascii "mean") (thousandths (counts .bits) (counts .read)))))))))
 
 -- What is told of a text that was asked for: the paper's answer, the text's length, and the lent output as it is left.
 pub record ToldText : Type 0 where
@@ -72,3 +66,19 @@ delivered text out =
 -- 11 for counts that no accepted log gives
 unfoldable pub reportedOf : Counts → List ℕ → ToldText
 reportedOf counts out = unless (isCounts counts) (notDelivered 11 out) (delivered (reportOf counts) out)
+
+-- so many bytes stand at the start of a list; both facts are stated, so that a caller's `&out[..length]` finds them
+abbrev pub Within : ℕ → List ℕ → Type 0
+Within n out = (n ≤ length out) × (n ≡ length (take n out))
+
+-- `refused`, 12 and the line number, parted by tabs
+unfoldable pub refusalLine : ℕ → ℕ → List ℕ
+refusalLine number place = ended (ascii "refused") tab ++ (ended (decimal number) tab ++ ended (decimal place) lineFeed)
+
+-- of a log that was refused only that is written
+abbrev pub orRefusal : Paper → ℕ → List ℕ → ToldText → ToldText
+orRefusal accepted place out text = text
+orRefusal (refused number) place out text = delivered (refusalLine number place) out
+
+unfoldable pub reportLogOf : LogRead → List ℕ → ToldText
+reportLogOf log out = orRefusal (paper (log .answer)) (log .line) out (reportedOf (log .counts) out)

@@ -1,5 +1,5 @@
-// A text is built by value, byte by byte, and delivered whole or not at all. It has room for the longest report and the longest row,
-// whatever the numbers, so nothing is ever left off.
+// A text is built by value, byte by byte, and delivered whole or not at all. It has room for the longest report, and for the longest row
+// below its names, whatever the numbers, so nothing is ever left off.
 ghost use mathlib.Core.Path.{_≡_};
 ghost use mathlib.Core.List.{[], _∷_};
 ghost use Prim.Native.Nat.{min};
@@ -11,7 +11,7 @@ use crate::Written;
 use answers::Answer;
 use answers::Refusal;
 
-const ROOM: usize = 384;
+const ROOM: usize = 512;
 
 pub struct Text {
     pub bytes: [u8; ROOM],

@@ -5,11 +5,13 @@ mod building;
 
 ghost use mathlib.Core.Path.{_≡_};
 ghost use mathlib.Core.Bool.{true};
+ghost use Rattle.answers.specs.Numbers.{numberOf};
+ghost use Rattle.text.specs.Ascii.{ascii};
 ghost use Rattle.band.specs.Band.{kilohertzOf};
 ghost use Rattle.summary.specs.Summary.{toldSummary, summaryOf, summarisedOf};
 ghost use Rattle.summary.specs.Summary.{share as Summary·share};
-ghost use Rattle.summary.specs.Report.{toldText, readLines, unreadLines, meanLine, reportOf, reportedOf};
-ghost use Rattle.summary.specs.Export.{sheetRow, isSummary, exportedOf};
+ghost use Rattle.summary.specs.Report.{toldText, Within, line, thousandths, reportOf, delivered, reportedOf, refusalLine, reportLogOf};
+ghost use Rattle.summary.specs.Export.{sheetRow, sheetOf, isSummary, exportedOf, exportLogOf};
 ghost use Rattle.summary.specs.Building.{content, Grows};
 ghost use Rattle.log.specs.Log.{isCounts};
 use answers::Answer;
@@ -17,6 +19,7 @@ use answers::Refusal;
 use band::Channel;
 use building::Text;
 use log::Counts;
+use log::LogRead;
 
 // The mean of corrected bits over the blocks that were read, and the share of the slots in which nothing was received, each beside
 // the flag that says whether it exists. With a clear flag the number is positive zero.
@@ -102,8 +105,60 @@ pub fn export(counts: Counts, summary: Summary, out: &mut [u8]) -> Written
 {
     if log::is_counts(counts) {
         if is_summary(summary, counts) {
-            return building::deliver(row_text(counts, summary), out);
+            return building::deliver(put_row(building::empty(), counts, summary), out);
         }
+    }
+    Written {
+        answer: Answer::Refused(Refusal::OutsideRule),
+        length: 0,
+    }
+}
+
+// Writes what the program `report` answers to a log to the start of `out`: the report, or of a log that was refused `refused`, the
+// answer's number and the line number, parted by tabs and ended by a line feed. Refused, with `out` as before: 11 for counts of an
+// accepted log that none gives, 10 for an output that is shorter than the text.
+pub fn report_log(log: LogRead, out: &mut [u8]) -> Written
+    ensures { λ r. ⌜ toldText r (now (out .exit)) ≡ reportLogOf log (now (out .entry)) ⌝ }
+    ensures { λ r. ⌜ Within (r .length) (now (out .exit)) ⌝ }
+{
+    let answer = log.answer;
+    let counts = log.counts;
+    match answer {
+        Answer::Accepted => report(counts, out),
+        Answer::Refused(refusal) => refuse(refusal, log.line, out),
+    }
+}
+
+// Writes what the program `sheet` answers to a log likewise: a line with the names of the row's fields, and the row; or the refusal.
+pub fn export_log(log: LogRead, out: &mut [u8]) -> Written
+    ensures { λ r. ⌜ toldText r (now (out .exit)) ≡ exportLogOf log (now (out .entry)) ⌝ }
+    ensures { λ r. ⌜ Within (r .length) (now (out .exit)) ⌝ }
+{
+    let answer = log.answer;
+    let counts = log.counts;
+    match answer {
+        Answer::Accepted => sheet(counts, out),
+        Answer::Refused(refusal) => refuse(refusal, log.line, out),
+    }
+}
+
+fn refuse(refusal: Refusal, line: u32, out: &mut [u8]) -> Written
+    ensures { λ r. ⌜ toldText r (now (out .exit)) ≡ delivered (refusalLine (numberOf refusal) line) (now (out .entry)) ⌝ }
+{
+    let named = building::put(building::empty(), b"refused\t");
+    let numbered = building::put_field(named, answers::number(refusal) as u32, b'\t');
+    building::deliver(building::put_field(numbered, line, b'\n'), out)
+}
+
+fn sheet(counts: Counts, out: &mut [u8]) -> Written
+    ensures { λ r. ⌜ toldText r (now (out .exit)) ≡ sheetOf counts (now (out .entry)) ⌝ }
+{
+    if log::is_counts(counts) {
+        let names = building::put(
+            building::empty(),
+            b"channel\tkhz\tslots\tread\tclean\tbits\tnoword\tcheck\tmissing\tmean\tmissing share\n",
+        );
+        return building::deliver(put_row(names, counts, summary_of(counts)), out);
     }
     Written {
         answer: Answer::Refused(Refusal::OutsideRule),
@@ -114,26 +169,15 @@ pub fn export(counts: Counts, summary: Summary, out: &mut [u8]) -> Written
 fn report_text(counts: Counts) -> Text
     ensures { λ r. ⌜ content r ≡ reportOf counts ⌝ }
 {
-    let read = put_read(building::empty(), counts);
-    put_mean(put_unread(read, counts), counts)
-}
-
-fn put_read(text: Text, counts: Counts) -> Text
-    ensures { λ r. ⌜ Grows text (readLines counts) r ⌝ }
-{
-    let khz = building::put_line(text, b"khz", frequency(counts.channel));
+    let khz = building::put_line(building::empty(), b"khz", frequency(counts.channel));
     let slots = building::put_line(khz, b"slots", counts.slots);
     let read = building::put_line(slots, b"read", counts.read);
     let clean = building::put_line(read, b"clean", counts.clean);
-    building::put_line(clean, b"bits", counts.bits)
-}
-
-fn put_unread(text: Text, counts: Counts) -> Text
-    ensures { λ r. ⌜ Grows text (unreadLines counts) r ⌝ }
-{
-    let noword = building::put_line(text, b"noword", counts.noword);
+    let bits = building::put_line(clean, b"bits", counts.bits);
+    let noword = building::put_line(bits, b"noword", counts.noword);
     let check = building::put_line(noword, b"check", counts.check);
-    building::put_line(check, b"missing", counts.missing)
+    let missing = building::put_line(check, b"missing", counts.missing);
+    put_mean(missing, counts)
 }
 
 fn frequency(channel: u8) -> u32
@@ -144,7 +188,7 @@ fn frequency(channel: u8) -> u32
 }
 
 fn put_mean(text: Text, counts: Counts) -> Text
-    ensures { λ r. ⌜ Grows text (meanLine counts) r ⌝ }
+    ensures { λ r. ⌜ Grows text (line (ascii "mean") (thousandths (counts .bits) (counts .read))) r ⌝ }
 {
     let named = building::put(text, b"mean\t");
     if counts.read == 0 {
@@ -166,12 +210,12 @@ fn is_summary(given: Summary, counts: Counts) -> bool
         & binary::same_bits(given.missing, own.missing)
 }
 
-fn row_text(counts: Counts, summary: Summary) -> Text
+fn put_row(text: Text, counts: Counts, summary: Summary) -> Text
     requires { ⌜ isCounts counts ≡ true ⌝ }
     requires { ⌜ summary ≡ summaryOf counts ⌝ }
-    ensures { λ r. ⌜ content r ≡ sheetRow counts summary ⌝ }
+    ensures { λ r. ⌜ Grows text (sheetRow counts summary) r ⌝ }
 {
-    let channel = building::put_field(building::empty(), counts.channel as u32, b'\t');
+    let channel = building::put_field(text, counts.channel as u32, b'\t');
     let khz = building::put_field(channel, frequency(counts.channel), b'\t');
     let slots = building::put_field(khz, counts.slots, b'\t');
     let read = building::put_field(slots, counts.read, b'\t');
