@@ -92,26 +92,22 @@ badLine s = record { answer = refused 12; line = lineNumber (s .counts); reader 
 abbrev pub fine : Reader → ToldFed
 fine s = record { answer = accepted; line = 0; reader = s }
 
-abbrev pub fedAt : Phase → Reader → ToldFed
-fedAt Open s = fine s
-fedAt Refused s = badLine s
-fedAt Ended s = fine s
+-- a reader that takes a piece has not ended: where it is not open, a line was refused
+abbrev pub afterPiece : Reader → ToldFed
+afterPiece s = unless (isOpen (s .phase)) (badLine s) (fine s)
 
--- the first line is needed, and every line's line feed
-abbrev pub endedAt : Phase → Reader → ToldFed
-endedAt Open s =
-    unless (not (eqb (s .counts .channel) 0)) (badLine (between Refused (s .counts)))
-    (unless (eqb (s .length) 0) (badLine (between Refused (s .counts)))
-    (fine (between Ended (s .counts))))
-endedAt Refused s = badLine s
-endedAt Ended s = fine s
+-- no line was refused, the first is there, and the last has its line feed
+abbrev pub afterEnd : Reader → ToldFed
+afterEnd s =
+    unless (isOpen (s .phase) && not (eqb (s .counts .channel) 0) && eqb (s .length) 0) (badLine (between Refused (s .counts)))
+    (fine (between Ended (s .counts)))
 
 -- the whole log
 abbrev pub wholeOf : ToldFed → ToldLog
 wholeOf t = record { answer = t .answer; line = t .line; counts = t .reader .counts }
 
 unfoldable pub readOf : List ℕ → ToldLog
-readOf log = wholeOf (endedAt (run freshReader log .phase) (run freshReader log))
+readOf log = wholeOf (afterEnd (run freshReader log))
 
 -- ---- a log in pieces
 
@@ -144,7 +140,7 @@ abbrev pub noReader : Reader → ToldFed
 noReader s = record { answer = refused 11; line = 0; reader = s }
 
 unfoldable pub fedOf : Reader → List ℕ → ToldFed
-fedOf s piece = unless (isReader s) (noReader s) (fedAt (run s piece .phase) (run s piece))
+fedOf s piece = unless (isReader s) (noReader s) (afterPiece (run s piece))
 
 unfoldable pub endOf : Reader → ToldFed
-endOf s = unless (isReader s) (noReader s) (endedAt (s .phase) s)
+endOf s = unless (isReader s) (noReader s) (afterEnd s)

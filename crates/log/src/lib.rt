@@ -8,7 +8,7 @@ mod slot;
 
 pub use count::is_counts;
 ghost use mathlib.Core.Path.{_≡_};
-ghost use Rattle.log.specs.Reader.{toldLog, toldFed, freshReader, between, badLine, noReader, endedAt, isBefore, isReader, readOf, fedOf, endOf};
+ghost use Rattle.log.specs.Reader.{toldLog, toldFed, freshReader, between, badLine, noReader, afterEnd, isBefore, isReader, readOf, fedOf, endOf};
 ghost use mathlib.Core.Bool.{true};
 use answers::Answer;
 use answers::Refusal;
@@ -131,7 +131,7 @@ fn no_reader(reader: Reader) -> Fed
 
 fn after_end(reader: Reader) -> Fed
     requires { ⌜ isReader reader ≡ true ⌝ }
-    ensures { λ r. ⌜ toldFed r ≡ endedAt (reader .phase) reader ⌝ }
+    ensures { λ r. ⌜ toldFed r ≡ afterEnd reader ⌝ }
 {
     let phase = reader.phase;
     let counts = reader.counts;

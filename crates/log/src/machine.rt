@@ -1,5 +1,6 @@
-// The machine over bytes. It holds a line that is cut; a slot's line that lies whole in the piece, where nine bytes or more are left of
-// it, is read where it stands.
+// The machine over bytes. A line is recognised in two ways. Byte by byte it is held, and judged at its line feed (line.rt): so a line
+// that is cut, the first line and every bad one. For speed a good slot's line that lies whole in the piece, where nine bytes or more
+// are left of it, is read forward where it stands (slot.rt). `Goes` ties the two: either leads to the reader that `run` leads to.
 ghost use mathlib.Core.Path.{_≡_};
 ghost use mathlib.Core.Bool.{true, not};
 ghost use Prim.Native.Nat.{_≤_, _<_};

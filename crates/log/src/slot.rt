@@ -1,4 +1,5 @@
-// The next slot's line, read forward where it stands in a piece, so that nobody has to look for its end first.
+// The next slot's line, read forward where it stands in a piece, so that nobody has to look for its end first. What is found here is
+// found only to be good (`NextSlot`): any other line is left to be judged in line.rt.
 ghost use mathlib.Core.Path.{_≡_};
 ghost use mathlib.Core.Bool.{true, _&&_};
 ghost use Prim.Native.Nat.{_+_, _≤_, _<_};

@@ -19,7 +19,7 @@ use Rattle.answers.specs.Rules.{unless}
 use Rattle.log.specs.declared.LogRead.{LogRead}
 use Rattle.summary.specs.declared.building.Text.{Text}
 use Rattle.summary.specs.declared.Written.{Written}
-use Rattle.summary.specs.Report.{ToldText, toldText, notDelivered, delivered, Within, refusalLine, orRefusal}
+use Rattle.summary.specs.Report.{ToldText, toldText, notDelivered, delivered, refusalLine, orRefusal}
 use Rattle.summary.specs.Building.{room, content, Grows}
 
 grow-take : (n : ℕ) (a b : List ℕ) → take n (take n a ++ b) ≡ take n (a ++ b)
@@ -91,6 +91,10 @@ enough : (counted : Bool) (text out : List ℕ) → let t = unless counted (notD
 enough false text out = omega arith
 enough true text out =
     by-cases _ (leb (length text) (length out)) (λ e. rw e (omega (arith, length-append text (drop (length text) out)))) (λ e. rw e (omega arith))
+
+-- so many bytes stand at the start of a list
+abbrev Within : ℕ → List ℕ → Type 0
+Within n x = (n ≤ length x) × (n ≡ length (take n x))
 
 -- what was delivered stands in the output
 within : (r : Written) (x : List ℕ) (counted : Bool) (text out : List ℕ) → toldText r x ≡ unless counted (notDelivered 11 out) (delivered text out)

@@ -1,9 +1,8 @@
 -- Document 01, "The log and its report": the report's nine lines. Assumes nothing.
-use Prim.Native.Nat.{ℕ, _*_, _/_, _≤_}
+use Prim.Native.Nat.{ℕ, _*_, _/_}
 use mathlib.Core.Bool.{cond}
 use mathlib.Core.List.{List, [], _∷_, _++_}
-use mathlib.Core.Path.{_≡_}
-use lib.ListN.{length, take, drop}
+use lib.ListN.{length, drop}
 use lib.Dec.{leb, eqb}
 use Rattle.answers.specs.Numbers.{Paper, accepted, refused, paper}
 use Rattle.answers.specs.Rules.{unless}
@@ -66,10 +65,6 @@ delivered text out =
 -- 11 for counts that no accepted log gives
 unfoldable pub reportedOf : Counts → List ℕ → ToldText
 reportedOf counts out = unless (isCounts counts) (notDelivered 11 out) (delivered (reportOf counts) out)
-
--- so many bytes stand at the start of a list; both facts are stated, so that a caller's `&out[..length]` finds them
-abbrev pub Within : ℕ → List ℕ → Type 0
-Within n out = (n ≤ length out) × (n ≡ length (take n out))
 
 -- `refused`, 12 and the line number, parted by tabs
 unfoldable pub refusalLine : ℕ → ℕ → List ℕ

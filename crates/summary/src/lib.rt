@@ -5,12 +5,14 @@ mod building;
 
 ghost use mathlib.Core.Path.{_≡_};
 ghost use mathlib.Core.Bool.{true};
+ghost use Prim.Native.Nat.{_≤_};
+ghost use lib.ListN.{length, take};
 ghost use Rattle.answers.specs.Numbers.{numberOf};
 ghost use Rattle.text.specs.Ascii.{ascii};
 ghost use Rattle.band.specs.Band.{kilohertzOf};
 ghost use Rattle.summary.specs.Summary.{toldSummary, summaryOf, summarisedOf};
 ghost use Rattle.summary.specs.Summary.{share as Summary·share};
-ghost use Rattle.summary.specs.Report.{toldText, Within, line, thousandths, reportOf, delivered, reportedOf, refusalLine, reportLogOf};
+ghost use Rattle.summary.specs.Report.{toldText, line, thousandths, reportOf, delivered, reportedOf, refusalLine, reportLogOf};
 ghost use Rattle.summary.specs.Export.{sheetRow, sheetOf, isSummary, exportedOf, exportLogOf};
 ghost use Rattle.summary.specs.Building.{content, Grows};
 ghost use Rattle.log.specs.Log.{isCounts};
@@ -119,7 +121,7 @@ pub fn export(counts: Counts, summary: Summary, out: &mut [u8]) -> Written
 // accepted log that none gives, 10 for an output that is shorter than the text.
 pub fn report_log(log: LogRead, out: &mut [u8]) -> Written
     ensures { λ r. ⌜ toldText r (now (out .exit)) ≡ reportLogOf log (now (out .entry)) ⌝ }
-    ensures { λ r. ⌜ Within (r .length) (now (out .exit)) ⌝ }
+    ensures { λ r. ⌜ (r .length ≤ length (now (out .exit))) × (r .length ≡ length (take (r .length) (now (out .exit)))) ⌝ }
 {
     let answer = log.answer;
     let counts = log.counts;
@@ -132,7 +134,7 @@ pub fn report_log(log: LogRead, out: &mut [u8]) -> Written
 // Writes what the program `sheet` answers to a log likewise: a line with the names of the row's fields, and the row; or the refusal.
 pub fn export_log(log: LogRead, out: &mut [u8]) -> Written
     ensures { λ r. ⌜ toldText r (now (out .exit)) ≡ exportLogOf log (now (out .entry)) ⌝ }
-    ensures { λ r. ⌜ Within (r .length) (now (out .exit)) ⌝ }
+    ensures { λ r. ⌜ (r .length ≤ length (now (out .exit))) × (r .length ≡ length (take (r .length) (now (out .exit)))) ⌝ }
 {
     let answer = log.answer;
     let counts = log.counts;

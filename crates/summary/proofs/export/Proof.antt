@@ -25,23 +25,11 @@ own c =
     let g : T (fits binary64 (a .summary .missing)) = search needs in
     (k, summary-given (a .summary) (a .counts) f g k (sym (c .before .is-summary .ensures) ∙ c .if2 .taken))
 
-is-counts-requires : tie.Need-is-counts-requires
-is-counts-requires c κs = search needs
-
 is-summary-requires : tie.Need-is-summary-requires
 is-summary-requires c κs = sym (c .before .is-counts .ensures) ∙ c .if1 .taken
 
-empty-requires : tie.Need-empty-requires
-empty-requires c κs = search needs
-
 put-row-requires : tie.Need-put-row-requires
 put-row-requires c κs = own (c .before)
-
-deliver-requires : tie.Need-deliver-requires
-deliver-requires c κs = search needs
-
-same-length : tie.Need-same-length
-same-length c = search needs
 
 returns : tie.Need-returns
 unfolding exportedOf
@@ -65,12 +53,12 @@ pub export-spec : {M : Type 1} → statement M
 export-spec =
     tie.close
     (tie.spec
-    is-counts-requires
+    (λ c κs. search needs)
     is-summary-requires
-    empty-requires
+    (λ c κs. search needs)
     put-row-requires
-    deliver-requires
-    same-length
+    (λ c κs. search needs)
+    (λ c. search needs)
     returns
     returns-2
     returns-3)

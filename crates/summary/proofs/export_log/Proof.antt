@@ -11,26 +11,11 @@ use Rattle.summary.proofs.export_log.Tie as tie
 enum-told : tie.Need-enum-told
 enum-told c = search needs
 
-sheet-requires : tie.Need-sheet-requires
-sheet-requires c κs = search needs
-
-enum-known-answer : tie.Need-enum-known-answer
-enum-known-answer c = search needs
-
-refuse-requires : tie.Need-refuse-requires
-refuse-requires c κs = search needs
-
-same-length : tie.Need-same-length
-same-length c = search needs
-
 returns : tie.Need-returns
 unfolding exportLogOf sheetOf
 returns c =
     let a = c .before .before .before .before .before .before .before .before .args in
     accepted-told (a .log) (c .before .before .sheet .result) _ (isCounts (a .log .counts)) (sheetNames ++ sheetRow (a .log .counts) (summaryOf (a .log .counts))) (now (a .out)) (c .before .before .before .before .enum-told .given .1) (c .before .before .sheet .ensures)
-
-same-length-2 : tie.Need-same-length-2
-same-length-2 c = search needs
 
 returns-2 : tie.Need-returns-2
 unfolding exportLogOf
@@ -44,10 +29,10 @@ export-log-spec =
     tie.close
     (tie.spec
     enum-told
-    sheet-requires
-    enum-known-answer
-    refuse-requires
-    same-length
+    (λ c κs. search needs)
+    (λ c. search needs)
+    (λ c κs. search needs)
+    (λ c. search needs)
     returns
-    same-length-2
+    (λ c. search needs)
     returns-2)

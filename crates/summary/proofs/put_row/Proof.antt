@@ -10,50 +10,11 @@ use borrow.Author.Needs.{needs}
 use Rattle.summary.proofs.put_row.Statement.{statement}
 use Rattle.summary.proofs.put_row.Tie as tie
 
-cast-put-field : tie.Need-cast-put-field
-cast-put-field c = search needs
-
-put-field-requires : tie.Need-put-field-requires
-put-field-requires c κs = search needs
-
-frequency-requires : tie.Need-frequency-requires
-frequency-requires c κs = search needs
-
-put-field-requires-2 : tie.Need-put-field-requires-2
-put-field-requires-2 c κs = search needs
-
-put-field-requires-3 : tie.Need-put-field-requires-3
-put-field-requires-3 c κs = search needs
-
-put-field-requires-4 : tie.Need-put-field-requires-4
-put-field-requires-4 c κs = search needs
-
-put-field-requires-5 : tie.Need-put-field-requires-5
-put-field-requires-5 c κs = search needs
-
-put-field-requires-6 : tie.Need-put-field-requires-6
-put-field-requires-6 c κs = search needs
-
-put-field-requires-7 : tie.Need-put-field-requires-7
-put-field-requires-7 c κs = search needs
-
-put-field-requires-8 : tie.Need-put-field-requires-8
-put-field-requires-8 c κs = search needs
-
-put-field-requires-9 : tie.Need-put-field-requires-9
-put-field-requires-9 c κs = search needs
-
 put-cell-requires : tie.Need-put-cell-requires
 put-cell-requires c κs = let s = c .before .before .before .before .before .before .before .before .before .before .before in mean-given (s .args .summary) (s .args .counts) (s .pre .1) (s .pre .0)
 
-put-byte-requires : tie.Need-put-byte-requires
-put-byte-requires c κs = search needs
-
 put-cell-requires-2 : tie.Need-put-cell-requires-2
 put-cell-requires-2 c κs = let s = c .before .before .before .before .before .before .before .before .before .before .before .before .before in missing-given (s .args .summary) (s .args .counts) (s .pre .1) (s .pre .0)
-
-put-byte-requires-2 : tie.Need-put-byte-requires-2
-put-byte-requires-2 c κs = search needs
 
 returns : tie.Need-returns
 unfolding sheetRow
@@ -74,19 +35,19 @@ pub put-row-spec : {M : Type 1} → statement M
 put-row-spec =
     tie.close
     (tie.spec
-    cast-put-field
-    put-field-requires
-    frequency-requires
-    put-field-requires-2
-    put-field-requires-3
-    put-field-requires-4
-    put-field-requires-5
-    put-field-requires-6
-    put-field-requires-7
-    put-field-requires-8
-    put-field-requires-9
+    (λ c. search needs)
+    (λ c κs. search needs)
+    (λ c κs. search needs)
+    (λ c κs. search needs)
+    (λ c κs. search needs)
+    (λ c κs. search needs)
+    (λ c κs. search needs)
+    (λ c κs. search needs)
+    (λ c κs. search needs)
+    (λ c κs. search needs)
+    (λ c κs. search needs)
     put-cell-requires
-    put-byte-requires
+    (λ c κs. search needs)
     put-cell-requires-2
-    put-byte-requires-2
+    (λ c κs. search needs)
     returns)

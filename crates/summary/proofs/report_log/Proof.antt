@@ -9,26 +9,11 @@ use Rattle.summary.proofs.report_log.Tie as tie
 enum-told : tie.Need-enum-told
 enum-told c = search needs
 
-report-requires : tie.Need-report-requires
-report-requires c κs = search needs
-
-enum-known-answer : tie.Need-enum-known-answer
-enum-known-answer c = search needs
-
-refuse-requires : tie.Need-refuse-requires
-refuse-requires c κs = search needs
-
-same-length : tie.Need-same-length
-same-length c = search needs
-
 returns : tie.Need-returns
 unfolding reportLogOf reportedOf
 returns c =
     let a = c .before .before .before .before .before .before .before .before .args in
     accepted-told (a .log) (c .before .before .report .result) _ (isCounts (a .log .counts)) (reportOf (a .log .counts)) (now (a .out)) (c .before .before .before .before .enum-told .given .1) (c .before .before .report .ensures)
-
-same-length-2 : tie.Need-same-length-2
-same-length-2 c = search needs
 
 returns-2 : tie.Need-returns-2
 unfolding reportLogOf
@@ -42,10 +27,10 @@ report-log-spec =
     tie.close
     (tie.spec
     enum-told
-    report-requires
-    enum-known-answer
-    refuse-requires
-    same-length
+    (λ c κs. search needs)
+    (λ c. search needs)
+    (λ c κs. search needs)
+    (λ c. search needs)
     returns
-    same-length-2
+    (λ c. search needs)
     returns-2)

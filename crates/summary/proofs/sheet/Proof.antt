@@ -11,29 +11,8 @@ use borrow.Author.Needs.{needs}
 use Rattle.summary.proofs.sheet.Statement.{statement}
 use Rattle.summary.proofs.sheet.Tie as tie
 
-is-counts-requires : tie.Need-is-counts-requires
-is-counts-requires c κs = search needs
-
-empty-requires : tie.Need-empty-requires
-empty-requires c κs = search needs
-
-slice-aggregate-put : tie.Need-slice-aggregate-put
-slice-aggregate-put c = search needs
-
-put-requires : tie.Need-put-requires
-put-requires c κs = search needs
-
-summary-of-requires : tie.Need-summary-of-requires
-summary-of-requires c κs = search needs
-
 put-row-requires : tie.Need-put-row-requires
 put-row-requires c κs = (sym (c .before .before .before .before .before .is-counts .ensures) ∙ c .before .before .before .before .if1 .taken, c .summary-of .ensures)
-
-deliver-requires : tie.Need-deliver-requires
-deliver-requires c κs = search needs
-
-same-length : tie.Need-same-length
-same-length c = search needs
 
 returns : tie.Need-returns
 unfolding sheetOf sheetNames
@@ -54,13 +33,13 @@ pub sheet-spec : {M : Type 1} → statement M
 sheet-spec =
     tie.close
     (tie.spec
-    is-counts-requires
-    empty-requires
-    slice-aggregate-put
-    put-requires
-    summary-of-requires
+    (λ c κs. search needs)
+    (λ c κs. search needs)
+    (λ c. search needs)
+    (λ c κs. search needs)
+    (λ c κs. search needs)
     put-row-requires
-    deliver-requires
-    same-length
+    (λ c κs. search needs)
+    (λ c. search needs)
     returns
     returns-2)
