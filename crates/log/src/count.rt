@@ -23,12 +23,12 @@ pub(crate) fn is_sound(counts: Counts) -> bool
         return false;
     }
     let dirty = counts.read - counts.clean;
-    let told = counts.read as u64
+    let outcomes = counts.read as u64
         + counts.noword as u64
         + counts.check as u64
         + counts.missing as u64;
     (counts.slots <= GREATEST_SLOT)
-        & (counts.slots as u64 == told)
+        & (counts.slots as u64 == outcomes)
         & (dirty <= counts.bits)
         & (counts.bits as u64 <= 8 * (dirty as u64))
 }

@@ -10,26 +10,26 @@ returns : tie.Need-returns
 unfolding isSound
 returns c = rw (lt-leb (c .before .before .args .counts .clean) (c .before .before .args .counts .read) (c .if1 .taken), and-false)
 
-cast-told : tie.Need-cast-told
-cast-told c = search needs
+cast-outcomes : tie.Need-cast-outcomes
+cast-outcomes c = search needs
 
-cast-told-2 : tie.Need-cast-told-2
-cast-told-2 c = search needs
+cast-outcomes-2 : tie.Need-cast-outcomes-2
+cast-outcomes-2 c = search needs
 
-add-told : tie.Need-add-told
-add-told c = search needs
+add-outcomes : tie.Need-add-outcomes
+add-outcomes c = search needs
 
-cast-told-3 : tie.Need-cast-told-3
-cast-told-3 c = search needs
+cast-outcomes-3 : tie.Need-cast-outcomes-3
+cast-outcomes-3 c = search needs
 
-add-told-2 : tie.Need-add-told-2
-add-told-2 c = search needs
+add-outcomes-2 : tie.Need-add-outcomes-2
+add-outcomes-2 c = search needs
 
-cast-told-4 : tie.Need-cast-told-4
-cast-told-4 c = search needs
+cast-outcomes-4 : tie.Need-cast-outcomes-4
+cast-outcomes-4 c = search needs
 
-add-told-3 : tie.Need-add-told-3
-add-told-3 c = search needs
+add-outcomes-3 : tie.Need-add-outcomes-3
+add-outcomes-3 c = search needs
 
 cast-result : tie.Need-cast-result
 cast-result c = search needs
@@ -55,13 +55,13 @@ is-sound-spec =
     tie.close
     (tie.spec
     returns
-    cast-told
-    cast-told-2
-    add-told
-    cast-told-3
-    add-told-2
-    cast-told-4
-    add-told-3
+    cast-outcomes
+    cast-outcomes-2
+    add-outcomes
+    cast-outcomes-3
+    add-outcomes-2
+    cast-outcomes-4
+    add-outcomes-3
     cast-result
     cast-result-2
     cast-result-3
