@@ -50,9 +50,9 @@ report-short c =
 pub report-fits : (c : Counts) → length (reportOf c) ≤ 241
 report-fits c = report-short c .most
 
-pub refusal-fits : (number place : ℕ) → length (refusalLine number place) ≤ room
+-- AND EVERY REFUSAL AT MOST 50
+pub refusal-fits : (number place : ℕ) → length (refusalLine number place) ≤ 50
 unfolding refusalLine
 refusal-fits number place =
     let w : Short (ended (ascii "refused") 9) 8 = record { most = omega arith } in
-    let h : Short (refusalLine number place) 50 = two w (two (ended-short 9 (number-short number)) (ended-short 10 (number-short place))) in
-    omega (arith, h .most)
+    two w (two (ended-short 9 (number-short number)) (ended-short 10 (number-short place))) .most

@@ -1,6 +1,7 @@
 use Prim.Native.Nat.{ℕ}
 use mathlib.Core.Path.{_∙_, ap}
 use mathlib.Core.List.{List}
+use native.Mathlib.Omega.{arith}
 use denote.Ref.{now}
 use Rattle.answers.specs.Numbers.{numberOf}
 use Rattle.text.specs.Ascii.{tab}
@@ -18,7 +19,7 @@ returns c =
     let a = c .before .before .before .before .before .before .before .before .before .before .before .args in
     c .before .before .deliver .ensures
     ∙ ap (λ (l : List ℕ). delivered l (now (a .out)))
-    (grows-whole (c .before .before .before .before .before .before .before .before .before .empty .ensures) (refusal-fits (numberOf (a .refusal)) (a .line))
+    (grows-whole (c .before .before .before .before .before .before .before .before .before .empty .ensures) (omega (arith, refusal-fits (numberOf (a .refusal)) (a .line)))
     (grows-then (c .before .before .before .before .before .before .before .put .ensures)
     (grows-then (grows-same (ap (λ (n : ℕ). ended (decimal n) tab) (c .before .before .before .before .before .before .number .ensures)) (c .before .before .before .before .before .put-field .ensures)) (c .before .before .before .before .put-field2 .ensures))))
 
