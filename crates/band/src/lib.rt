@@ -64,15 +64,9 @@ pub fn to_channel(kilohertz: Kilohertz) -> ChannelAnswer
 {
     let frequency = kilohertz.0;
     if is_frequency(frequency) {
-        return ChannelAnswer {
-            answer: Answer::Accepted,
-            channel: Channel(((frequency - 87500) / 100) as u8),
-        };
+        return numbered((frequency - 87500) / 100);
     }
-    ChannelAnswer {
-        answer: Answer::Refused(Refusal::OutsideRule),
-        channel: Channel(0),
-    }
+    numbered(0)
 }
 
 // Whether this is a channel number, 1 to 204.

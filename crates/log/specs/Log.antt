@@ -99,14 +99,10 @@ channelUpTo (suc n) line = cond (sameAs line (firstLine (suc n))) (suc n) (chann
 unfoldable pub isNext : ℕ → List ℕ → Bool
 isNext slots line = ltb slots greatestSlot && isOutcome (last line) && sameAs line (slotLine (slots + 1) (last line))
 
-abbrev pub judgedFirst : ℕ → Judged
-judgedFirst channel = record { good = not (eqb channel 0); counts = tuned channel }
-
-abbrev pub judgedSlot : Bool → Counts → ℕ → Judged
-judgedSlot good counts outcome = record { good = good; counts = cond good (counted counts outcome) counts }
-
 -- the first line gives the channel; a bad line leaves the counts as before it
 unfoldable pub judged : Counts → List ℕ → Judged
 judged counts line =
-    cond (eqb (counts .channel) 0) (judgedFirst (channelUpTo lastChannel line))
-    (judgedSlot (isNext (counts .slots) line) counts (last line))
+    let channel = channelUpTo lastChannel line in
+    let good = isNext (counts .slots) line in
+    cond (eqb (counts .channel) 0) (record { good = not (eqb channel 0); counts = tuned channel })
+    (record { good = good; counts = cond good (counted counts (last line)) counts })
