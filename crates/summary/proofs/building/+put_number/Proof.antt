@@ -5,12 +5,12 @@ use Rattle.summary.proofs.Texts.{grows-same, grows-then}
 use Prim.Native.Nat.{ℕ, _/_, _<_}
 use borrow.Fn.Kinds.{In}
 use borrow.Fn.PlainCycle.{Measures, is, falls, and}
-use Rattle.summary.proofs.text.put_number.Reads as put-number
-use Rattle.summary.proofs.text.put_number.Kinds as put-number-kinds
-use Rattle.summary.proofs.text.+put_number.Lts-put_number as put-number-lts
-use Rattle.summary.proofs.text.put_byte.Reads as put-byte-reads
-use Rattle.summary.proofs.text.+put_number.{statement}
-use Rattle.summary.proofs.text.+put_number.Tie.{close}
+use Rattle.summary.proofs.building.put_number.Reads as put-number
+use Rattle.summary.proofs.building.put_number.Kinds as put-number-kinds
+use Rattle.summary.proofs.building.+put_number.Lts-put_number as put-number-lts
+use Rattle.summary.proofs.building.put_byte.Reads as put-byte-reads
+use Rattle.summary.proofs.building.+put_number.{statement}
+use Rattle.summary.proofs.building.+put_number.Tie.{close}
 
 abbrev μ-put-number : Measures 0 put-number-kinds.ps ℕ
 μ-put-number κs a = a .1 .0

@@ -1,7 +1,7 @@
 use Rattle.summary.proofs.Texts.{grows-then}
 use borrow.Author.Needs.{needs}
-use Rattle.summary.proofs.text.put_field.Statement.{statement}
-use Rattle.summary.proofs.text.put_field.Tie as tie
+use Rattle.summary.proofs.building.put_field.Statement.{statement}
+use Rattle.summary.proofs.building.put_field.Tie as tie
 
 put-number-requires : tie.Need-put-number-requires
 put-number-requires c κs = search needs

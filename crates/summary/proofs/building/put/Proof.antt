@@ -1,13 +1,13 @@
 use denote.Ref.{now}
 use Rattle.summary.proofs.Texts.{grows-none, grows-next, grows-all}
-use Rattle.summary.specs.Building.{Grows}
+use Rattle.summary.specs.Building.{room, Grows}
 use lib.ListN.{length, take}
 use borrow.Author.Needs.{needs}
 use native.Mathlib.Omega.{arith}
 use Prim.Native.Nat.{_≤_, _-_}
 use mathlib.Core.Path.{_≡_}
-use Rattle.summary.proofs.text.put.Statement.{statement}
-use Rattle.summary.proofs.text.put.Tie as tie
+use Rattle.summary.proofs.building.put.Statement.{statement}
+use Rattle.summary.proofs.building.put.Tie as tie
 
 abbrev Inv-loop : tie.InvT-loop
 Inv-loop bytes so-far₀ i₀ so-far i = (i ≤ length bytes) × Grows so-far₀ (take i bytes) so-far
@@ -16,7 +16,7 @@ abbrev μ-loop : tie.MeasureT-loop
 μ-loop bytes so-far₀ i₀ so-far i = length bytes - i
 
 loop-holds : tie.Need-loop-holds Inv-loop μ-loop
-loop-holds c = let f : length (c .before .args .text .bytes) ≡ 384 = search needs in (omega arith, grows-none (c .before .args .text) f)
+loop-holds c = let f : length (c .before .args .text .bytes) ≡ room = search needs in (omega arith, grows-none (c .before .args .text) f)
 
 shared-slice-read-put-byte : tie.Need-shared-slice-read-put-byte Inv-loop μ-loop
 shared-slice-read-put-byte c = omega arith

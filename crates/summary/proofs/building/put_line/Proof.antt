@@ -1,8 +1,8 @@
 use Rattle.summary.proofs.Texts.{grows-then}
 use Rattle.summary.specs.Report.{line}
 use borrow.Author.Needs.{needs}
-use Rattle.summary.proofs.text.put_line.Statement.{statement}
-use Rattle.summary.proofs.text.put_line.Tie as tie
+use Rattle.summary.proofs.building.put_line.Statement.{statement}
+use Rattle.summary.proofs.building.put_line.Tie as tie
 
 put-requires : tie.Need-put-requires
 put-requires c κs = search needs

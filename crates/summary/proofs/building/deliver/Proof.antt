@@ -6,38 +6,38 @@ use lib.Seq.{length-take-le, take-all}
 use mathlib.Core.List.{List, _++_}
 use Prim.Native.Nat.{ℕ}
 use Rattle.summary.proofs.Texts.{content-least}
-use Rattle.summary.specs.Building.{content}
+use Rattle.summary.specs.Building.{room, content}
 use denote.Ref.{now}
 use native.Mathlib.Omega.{arith}
 use borrow.Author.Tests.{lt-leb, le-leb}
 use mathlib.Core.Path.{_≡_, _∙_, sym, ap}
 use borrow.Author.Needs.{needs}
-use Rattle.summary.proofs.text.deliver.Statement.{statement}
-use Rattle.summary.proofs.text.deliver.Tie as tie
+use Rattle.summary.proofs.building.deliver.Statement.{statement}
+use Rattle.summary.proofs.building.deliver.Tie as tie
 
 least-requires : tie.Need-least-requires
 least-requires c κs = search needs
 
 returns : tie.Need-returns
 returns c =
-    let f : length (c .before .before .before .before .args .text .bytes) ≡ 384 = search needs in
+    let f : length (c .before .before .before .before .args .text .bytes) ≡ room = search needs in
     let t = c .before .before .before .before .args .text in
     let k = content-least t f in
     sym (rw (lt-leb (length (content t)) (length (now (c .before .before .before .before .args .out))) (omega (arith, k .1, c .before .least .ensures, c .if1 .taken))))
 
 array-share-prefix-held : tie.Need-array-share-prefix-held
 array-share-prefix-held c =
-    let f : length (c .before .before .before .before .args .text .bytes) ≡ 384 = search needs in
+    let f : length (c .before .before .before .before .args .text .bytes) ≡ room = search needs in
     omega (arith, c .before .least .ensures)
 
 slice-aggregate-copy : tie.Need-slice-aggregate-copy
 slice-aggregate-copy c =
-    let f : length (c .before .before .before .before .before .args .text .bytes) ≡ 384 = search needs in
+    let f : length (c .before .before .before .before .before .args .text .bytes) ≡ room = search needs in
     sym (length-take-le (c .before .before .least .result) (c .before .before .before .before .before .args .text .bytes) (omega (arith, c .before .before .least .ensures)))
 
 copy-requires : tie.Need-copy-requires
 copy-requires c κs =
-    let f : length (c .before .before .before .before .before .before .args .text .bytes) ≡ 384 = search needs in
+    let f : length (c .before .before .before .before .before .before .args .text .bytes) ≡ room = search needs in
     omega (arith, length-take (c .before .before .before .least .result) (c .before .before .before .before .before .before .args .text .bytes), c .before .before .if1 .left)
 
 same-length : tie.Need-same-length
@@ -45,7 +45,7 @@ same-length c = search needs
 
 returns-2 : tie.Need-returns-2
 returns-2 c =
-    let f : length (c .before .before .before .before .before .before .before .before .before .args .text .bytes) ≡ 384 = search needs in
+    let f : length (c .before .before .before .before .before .before .before .before .before .args .text .bytes) ≡ room = search needs in
     let t = c .before .before .before .before .before .before .before .before .before .args .text in
     let o = now (c .before .before .before .before .before .before .before .before .before .args .out) in
     let k = content-least t f in

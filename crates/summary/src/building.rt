@@ -1,5 +1,5 @@
-// A text is built by value, byte by byte, and delivered whole or not at all. It has room for the longest report and the longest row,
-// whatever the numbers, so nothing is ever left off.
+// A text is built by value, byte by byte, and delivered whole or not at all. It has room for the longest report, and for the longest row
+// below its names, whatever the numbers, so nothing is ever left off.
 ghost use mathlib.Core.Path.{_≡_};
 ghost use mathlib.Core.List.{[], _∷_};
 ghost use Prim.Native.Nat.{min};
@@ -11,10 +11,10 @@ use crate::Written;
 use answers::Answer;
 use answers::Refusal;
 
-const ROOM: usize = 384;
+const ROOM: usize = 512;
 
 pub struct Text {
-    pub bytes: [u8; 384],
+    pub bytes: [u8; ROOM],
     pub length: usize,
 }
 
@@ -22,7 +22,7 @@ pub(crate) fn empty() -> Text
     ensures { λ r. ⌜ content r ≡ [] ⌝ }
 {
     Text {
-        bytes: [0; 384],
+        bytes: [0; ROOM],
         length: 0,
     }
 }
@@ -57,9 +57,9 @@ pub(crate) fn put_number(text: Text, number: u64) -> Text
     ensures { λ r. ⌜ Grows text (decimal number) r ⌝ }
 {
     if number < 10 {
-        return put_byte(text, 48 + number as u8);
+        return put_byte(text, b'0' + number as u8);
     }
-    put_byte(put_number(text, number / 10), 48 + (number % 10) as u8)
+    put_byte(put_number(text, number / 10), b'0' + (number % 10) as u8)
 }
 
 // A number and the mark that ends it.
