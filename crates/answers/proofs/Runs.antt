@@ -1,7 +1,7 @@
 -- Laws of runs, and the run of a definition: any outcomes that are told as it has them are this run. Assumes nothing.
 use mathlib.Core.Path.{_≡_, refl, ap, _∙_}
 use mathlib.Core.List.{List, [], _∷_, _++_, map}
-use Rattle.answers.specs.Runs.{Run, stateLeft}
+use Rattle.answers.specs.Rules.{Run, stateLeft}
 
 module _ {S I T : Type 0} (step : S → I → T) (after : T → S) where
   abbrev pub runOf : S → List I → List T

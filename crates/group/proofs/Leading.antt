@@ -8,7 +8,7 @@ use borrow.Author.Tests.{leb-true}
 use lib.Dec.{eqb, leb, ltb}
 use lib.ListN.{length, take, length-append}
 use lib.Seq.{paste, take-paste, take-length, length-take-le}
-use Rattle.answers.specs.Runs.{stateLeft}
+use Rattle.answers.specs.Rules.{stateLeft}
 use Rattle.group.specs.Answers.{Outcome, taken, whole, refused, GroupAfter}
 use Rattle.group.specs.State.{idle, keepsRule, messageFits, isIdle, joinedOn, joinOf}
 use Rattle.group.specs.Leading.{Message, GroupAndBuffer, JoinResult, toldResult, joinMessage, leftBy, Joins, joinedTo, changesNothing, joinedAfter, joinedBy, Leads}

@@ -6,7 +6,7 @@ use mathlib.Core.Bool.{Bool, cond, _||_}
 use mathlib.Core.List.{List, [], _∷_, _++_}
 use lib.Dec.{eqb}
 use lib.ListN.{length, take}
-use Rattle.answers.specs.Runs.{Run}
+use Rattle.answers.specs.Rules.{Run}
 use Rattle.channel.specs.declared.Fields.{Fields}
 use Rattle.group.specs.Answers.{Outcome, taken, whole, refused, GroupAfter, toldJoin}
 use Rattle.group.specs.State.{joinOf}

@@ -5,7 +5,7 @@ use mathlib.Core.Bool.{Bool, true, false, cond, not, _&&_, _||_, false≢true, a
 use mathlib.Core.List.{List, [], _∷_, _++_, append-assoc, append-nil}
 use native.Mathlib.Numerals.{add-one}
 use native.Mathlib.Omega.{arith}
-use lib.ListN.{length, getD, drop, set, replicate, length-append, length-drop, take-append-drop, length-replicate}
+use lib.ListN.{length, getD, take, drop, set, replicate, length-append, length-drop, take-append-drop, length-replicate}
 use lib.Seq.{drop-cons, take-append-seam, set-append-seam, drop-append-seam, length-take-le}
 use lib.Dec.{eqb, ltb}
 use borrow.Author.Tests.{lt-ltb, leb-true, le-leb, eqb-true, eqb-false, ltb-true, not-true}
@@ -16,10 +16,14 @@ use Rattle.log.specs.declared.Reader.{Reader}
 use Rattle.log.specs.declared.Phase.{Phase}
 use Rattle.log.specs.declared.Phase.the-variants.{Open, Refused, Ended}
 use Rattle.log.specs.Log.{isSound, judged}
-use Rattle.log.specs.Reader.{ToldFed, between, freshReader, lineOf, afterLine, openStep, isOpen, afterByte, run, badLine, fine, afterPiece, afterEnd, isPlain, isHeld, isHolding, isBefore, isReader}
+use Rattle.log.specs.Reader.{ToldFed, between, freshReader, afterLine, openStep, isOpen, afterByte, run, badLine, fine, afterPiece, afterEnd, isPlain, isHeld, isHolding, isBefore, isReader}
 use Rattle.log.proofs.Lists.{cond-with, by-cases, same-refl, same-true}
 use Rattle.log.proofs.Plain.{plain-none, plain-append, plain-one, plain-tail}
 use Rattle.log.proofs.Outcomes.{judged-before}
+
+-- the line so far
+abbrev lineOf : Reader → List ℕ
+lineOf s = take (s .length) (s .held)
 
 pub run-none : (s : Reader) → run s [] ≡ s
 unfolding run

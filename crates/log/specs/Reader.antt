@@ -49,10 +49,6 @@ between phase counts = record { phase = phase; counts = counts; held = replicate
 abbrev pub freshReader : Reader
 freshReader = between Open (tuned 0)
 
--- the line so far
-abbrev pub lineOf : Reader → List ℕ
-lineOf s = take (s .length) (s .held)
-
 abbrev pub afterLine : Judged → Reader
 afterLine j = between (cond (j .good) Open Refused) (j .counts)
 
@@ -65,7 +61,7 @@ holding s b =
 
 -- a line is judged at its line feed, or at a 64th byte that is none
 unfoldable pub openStep : Reader → ℕ → Reader
-openStep s b = cond (eqb b lineFeed) (afterLine (judged (s .counts) (lineOf s))) (holding s b)
+openStep s b = cond (eqb b lineFeed) (afterLine (judged (s .counts) (take (s .length) (s .held)))) (holding s b)
 
 abbrev pub isOpen : Phase → Bool
 isOpen Open = true

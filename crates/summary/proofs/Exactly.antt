@@ -20,7 +20,7 @@ use Rattle.summary.specs.declared.Summary.{Summary}
 use Rattle.summary.specs.Summary.{summaryOf}
 use Rattle.summary.specs.Report.{frequency}
 use Rattle.summary.specs.Export.{decimals, expansion, cell, sheetRow, sheetNames}
-use Rattle.summary.specs.Building.{room, Measured, Scaled, scaled}
+use Rattle.summary.specs.Building.{room, Measured, scaled}
 use Rattle.summary.proofs.Fits.{Short, two, number-short, ended-short}
 use Rattle.summary.proofs.Expansion.{expansion-same, decimals-done, decimals-next}
 use Rattle.summary.proofs.Same.{mean-given, missing-given}
@@ -33,8 +33,8 @@ zero-text x m e =
     let z : x ≡ ofBits binary64 0 = sym (ofBits-toBits binary64 x (m .holds)) ∙ ap (ofBits binary64) e in
     sym (ap (λ (y : Float). expansion (num y) (den y)) z)
 
-pub scaled-of : (x : Float) (b : ℕ) → Decoded x b → Scaled (fieldOf b) (digitsOf b)
-scaled-of x b d = record { least = d .least; most = d .most; small = omega arith }
+pub scaled-of : (x : Float) (b : ℕ) → Decoded x b → (1003 ≤ fieldOf b) × (fieldOf b ≤ 1026) × (digitsOf b < 2 ^ 53)
+scaled-of x b d = (d .least, d .most, omega arith)
 
 pub cross : (n e d k l j : ℕ) → n * 2 ^ (l + j) ≡ d * 2 ^ (k + j) * e → d * 2 ^ k * e ≡ n * 2 ^ l
 cross n e d k l j h =

@@ -9,7 +9,7 @@ use lib.Pow.{pow-mono}
 use borrow.Author.Tests.{eq-eqb, ne-eqb}
 use Rattle.log.specs.Decimal.{decimal}
 use Rattle.summary.specs.declared.building.Text.{Text}
-use Rattle.summary.specs.Building.{room, content, Grows, Scaled}
+use Rattle.summary.specs.Building.{room, content, Grows}
 use Rattle.summary.specs.Export.{decimals, expansion}
 use Rattle.summary.proofs.Texts.{grows-same, grows-empty}
 use Rattle.summary.proofs.Expansion.{decimals-done, decimals-next}
@@ -29,13 +29,13 @@ pub record Bounds (d f : ℕ) : Type 0 where
   pub high : d / 2 ^ 36 * f ≤ 131071 * f
   pub factor : f ≤ 2 ^ 23
 
-pub bounds : (field d : ℕ) → Scaled field d → Bounds d (1 * 2 ^ (field - 1003) % 2 ^ 64)
-bounds field d s =
-    let k = power-most field (s .most) in
+pub bounds : (field d : ℕ) → field ≤ 1026 → d < 2 ^ 53 → Bounds d (1 * 2 ^ (field - 1003) % 2 ^ 64)
+bounds field d h l =
+    let k = power-most field h in
     record {
       low = mul-le-mul-right _ (omega arith);
-      high = mul-le-mul-right _ (omega (arith, s .small));
-      factor = subst (λ (f : ℕ). f ≤ 2 ^ 23) (sym (factor-is field (s .most))) k;
+      high = mul-le-mul-right _ (omega (arith, l));
+      factor = subst (λ (f : ℕ). f ≤ 2 ^ 23) (sym (factor-is field h)) k;
     }
 
 pub limb-value : (d f b : ℕ) → (d / b * f + d % b * f / b) * b + d % b * f % b ≡ d * f

@@ -33,8 +33,3 @@ pub record Measured (x : Float) : Type 0 where
 -- digits * 2 ^ (field - 1075), in units of 2 ^ -72
 abbrev pub scaled : ℕ → ℕ → ℕ
 scaled field digits = digits * 2 ^ (field - 1003)
-
-pub record Scaled (field digits : ℕ) : Type 0 where
-  pub least : 1003 ≤ field
-  pub most : field ≤ 1026
-  pub small : digits < 2 ^ 53

@@ -1,10 +1,10 @@
 // A binary64 in decimal, exactly. Those that a row shows are 0 or lie from 2^-20 to 8, so they are whole multiples of 2^-72; such a
 // multiple is held in two numbers of 36 bits, for it does not fit one of 64.
 ghost use mathlib.Core.Path.{_≡_};
-ghost use Prim.Native.Nat.{_+_, _*_, _^_, _<_};
+ghost use Prim.Native.Nat.{_+_, _*_, _^_, _<_, _≤_};
 ghost use lib.Ieee.Positive.{num, den};
 ghost use Rattle.summary.specs.Export.{sameBits, decimals, expansion, cell};
-ghost use Rattle.summary.specs.Building.{Grows, Measured, Scaled, scaled};
+ghost use Rattle.summary.specs.Building.{Grows, Measured, scaled};
 use crate::building;
 use crate::building::Text;
 
@@ -59,7 +59,7 @@ fn put_exactly(text: Text, number: f64) -> Text
 
 // The number digits * 2^(field - 1075).
 fn scale(field: u64, digits: u64) -> Fixed
-    requires { ⌜ Scaled field digits ⌝ }
+    requires { ⌜ (1003 ≤ field) × (field ≤ 1026) × (digits < 2 ^ 53) ⌝ }
     ensures { λ r. ⌜ (r .high * 2 ^ 36 + r .low ≡ scaled field digits) × (r .low < 2 ^ 36) × (r .high < 2 ^ 40) ⌝ }
 {
     let factor = 1u64 << (field - 1003);

@@ -16,7 +16,7 @@ use Rattle.header.specs.Header.{Fit, field, fields, header, bytesOf, headerFrom
 use Rattle.header.proofs.Fields.{fields-fit, number-bytes, number-lt}
 use Rattle.header.proofs.Bits.{bit-of, header-again}
 use Rattle.channel.specs.Answers.{Outcome, message, refused}
-use Rattle.channel.specs.Layer4.{whereExt, layer4, sizeOf, endOf, blocksFilled, dataOf, opened, extOf, openedAt, isPadding, rightForm, tested, messageOf}
+use Rattle.channel.specs.Layer4.{whereExt, layer4, sizeOf, messageSize, blocksFilled, dataOf, opened, extOf, openedAt, isPadding, rightForm, tested, messageOf}
 use Rattle.channel.specs.declared.Header.{Header}
 use Rattle.channel.specs.declared.layer4.Opened.{Opened}
 use Rattle.channel.proofs.Headers.{fields-small}
@@ -36,13 +36,13 @@ record Passed (o : Opened) (bytes : List ℕ) (h : Header) : Type 0 where
   rfa : o .rfa ≡ 0
   form : rightForm (o .header .ext) (o .header .number) ≡ true
   count : blocksFilled (o .header) * 20 ≡ length bytes
-  padding : isPadding (drop (endOf (o .header)) bytes) ≡ true
+  padding : isPadding (drop (messageSize (o .header)) bytes) ≡ true
   is : o .header ≡ h
 
 all-passed : (o : Opened) (bytes : List ℕ) (h : Header) → tested o bytes ≡ message h → Passed o bytes h
 unfolding tested
 all-passed o bytes h e =
-    let end = endOf (o .header) in
+    let end = messageSize (o .header) in
     let Is : Outcome → Type 0 = λ r. r ≡ message h in
     let a = unless-passed Is (not (o .caf)) _ _ (no-message h 6) e in
     let b = unless-passed Is (o .checked) _ _ (no-message h 4) (a .1) in
@@ -126,10 +126,10 @@ pub record Again (bytes : List ℕ) (m : Header) : Type 0 where
   pub row : messageBytes m (dataOf m bytes) ≡ bytes
   pub blocks : blocksFilled m * 20 ≡ length bytes
 
-row-again : (m : Header) (s : List ℕ) → headerBytes m ≡ take (m .size) s → blocksFilled m * 20 ≡ length s → isPadding (drop (endOf m) s) ≡ true → messageBytes m (dataOf m s) ≡ s
+row-again : (m : Header) (s : List ℕ) → headerBytes m ≡ take (m .size) s → blocksFilled m * 20 ≡ length s → isPadding (drop (messageSize m) s) ≡ true → messageBytes m (dataOf m s) ≡ s
 unfolding messageBytes
 row-again m s h count z =
-    let n = endOf m in
+    let n = messageSize m in
     let front : headerBytes m ++ dataOf m s ≡ take n s = ap (λ (x : List ℕ). x ++ dataOf m s) h ∙ sym (take-add (m .size) (m .length) s) in
     let left : length (drop n s) ≡ blocksFilled m * 20 - n = length-drop n s ∙ ap (λ (k : ℕ). k - n) (sym count) in
     let back : drop n s ≡ replicate (blocksFilled m * 20 - n) 0 = zeros-all (drop n s) z ∙ ap (λ (k : ℕ). replicate k 0) left in

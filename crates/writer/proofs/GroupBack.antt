@@ -11,7 +11,7 @@ use lib.Dec.{eqb, leb, eqb·suc-zero}
 use lib.ListN.{length, take, drop, replicate, length-append, length-take, length-drop, take-append-drop}
 use lib.Seq.{paste, length-paste, take-all}
 use Rattle.answers.specs.Numbers.{accepted, paper}
-use Rattle.answers.specs.Runs.{stateLeft}
+use Rattle.answers.specs.Rules.{stateLeft}
 use Rattle.answers.proofs.Runs.{runOf, run-told, run-append, left-append}
 use Rattle.channel.specs.Answers as channel
 use Rattle.channel.specs.Answers.{ChannelAfter, toldStep}

@@ -8,7 +8,7 @@ use mathlib.Core.Bool.{Bool, true}
 use mathlib.Core.List.{List, [], _∷_, _++_, map}
 use lib.ListN.{length, take, drop, replicate}
 use Rattle.answers.specs.Numbers as answers
-use Rattle.answers.specs.Runs.{Run, stateLeft}
+use Rattle.answers.specs.Rules.{Run, stateLeft}
 use Rattle.gf2.specs.Poly.{bit}
 use Rattle.header.specs.Header.{field}
 use Rattle.channel.specs.Answers.{Outcome, taken, message, refused, ChannelAfter, toldStep}
