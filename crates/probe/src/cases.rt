@@ -47,8 +47,7 @@ pub const EXPORT: usize = REPORT + COLUMNS;
 // 65,536 (m) or 2^32 (w), a flag (f), the phase of a channel (p) or of a group (g), a binary64 (d), bytes (i), a log (l),
 // the bytes of a channel (c), an output (o).
 pub(crate) fn read(line: &[u8], numbers: &mut [u64], given: &mut [u8], lent: &mut [u8]) -> usize {
-    read_by(
-        b"correct\tio\t\
+    let table = b"correct\tio\t\
         read-block\tio\t\
         write-block\tio\t\
         new-channel\t\t\
@@ -62,21 +61,7 @@ pub(crate) fn read(line: &[u8], numbers: &mut [u64], given: &mut [u8], lent: &mu
         log\tl\t\
         summary\tswwwwwww\t\
         report\tswwwwwwwo\t\
-        export\tswwwwwwwfdfdo",
-        line,
-        numbers,
-        given,
-        lent,
-    )
-}
-
-fn read_by(
-    table: &[u8],
-    line: &[u8],
-    numbers: &mut [u64],
-    given: &mut [u8],
-    lent: &mut [u8],
-) -> usize {
+        export\tswwwwwwwfdfdo";
     let command = word(text::field(line, 0), table);
     if command == UNREADABLE {
         return usize::MAX;

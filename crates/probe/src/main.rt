@@ -10,7 +10,6 @@ mod put;
 mod rooms;
 mod surveys;
 
-ghost use Rattle.io.specs.Counts.{Counts};
 use arguments::GIVEN;
 use arguments::LENT;
 use arguments::PLACES;
@@ -56,19 +55,10 @@ fn call_plain(command: usize, numbers: &[u64], given: &[u8], lent: &[u8]) {
     }
 }
 
-// A line that fills its room is too long: it is taken for the empty one, which is no case either.
-fn fitting(length: usize, line: &[u8]) -> usize
-    ensures { λ r. ⌜ Counts r (now (line .entry)) ⌝ }
-{
-    if length < line.len() {
-        return rooms::within(length, line);
-    }
-    rooms::within(0, line)
-}
-
-// Answers a line, and tells whether the answer was written. A short line needs small rooms, whose zeros take no time.
+// Answers a line, and tells whether the answer was written. A line that fills its room is too long: it is taken for the
+// empty one, which is no case either. A short line needs small rooms, whose zeros take no time.
 fn answer(line: &[u8], length: usize) -> bool {
-    let count = fitting(length, line);
+    let count = rooms::within(length % rooms::LINE, line);
     if count <= 2 * rooms::SMALL {
         let mut given = io::buffer();
         let mut lent = io::buffer();
