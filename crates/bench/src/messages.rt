@@ -7,37 +7,26 @@ use crate::records;
 use channel::Fields;
 use group::Group;
 use group::Step;
+use group::Stepped;
 
-const RECORD_BYTES: usize = 264;
+pub const RECORD_BYTES: usize = 264;
 
 const DATA_AT: usize = 8;
 
 // The group's service number.
 const NUMBER: u16 = 1000;
 
-pub(crate) fn take(messages: &[u8], count: u32) -> u64 {
-    if messages.len() < RECORD_BYTES {
-        return 0;
-    }
+pub(crate) fn fresh() -> Group {
     let made = Group::new(NUMBER);
-    let mut group = made.group;
-    let mut buffer = [0u8; Group::MOST_BYTES];
-    let mut sum: u64 = 0;
-    let mut at: usize = 0;
-    let mut left = count;
-    while left > 0 {
-        let end = at + RECORD_BYTES;
-        let message = &messages[at..end];
-        let to = data_end(message);
-        let stepped = group.join(fields_of(message), &message[DATA_AT..to], &mut buffer);
-        let answer = stepped.answer;
-        let next = stepped.group;
-        group = next;
-        sum = told(sum, answer);
-        at = records::next(end, RECORD_BYTES, messages.len());
-        left -= 1;
-    }
-    records::add_bytes(add_counts(sum, group), &buffer)
+    let group = made.group;
+    group
+}
+
+pub(crate) fn join(group: Group, message: &[u8], buffer: &mut [u8]) -> Stepped
+    requires { ⌜ length (now message) ≡ 264 ⌝ }
+{
+    let end = data_end(message);
+    group.join(fields_of(message), &message[DATA_AT..end], buffer)
 }
 
 fn fields_of(message: &[u8]) -> Fields
@@ -66,7 +55,7 @@ fn data_end(message: &[u8]) -> usize
     DATA_AT + (number_of(message[5], message[6]) % 257) as usize
 }
 
-fn told(sum: u64, answer: Step) -> u64 {
+pub(crate) fn told(sum: u64, answer: Step) -> u64 {
     match answer {
         Step::Taken => records::add(sum, 0),
         Step::Whole(length) => records::add(sum, length as u64),
@@ -75,7 +64,7 @@ fn told(sum: u64, answer: Step) -> u64 {
 }
 
 // The phase follows from the answers.
-fn add_counts(sum: u64, group: Group) -> u64 {
+pub(crate) fn add_counts(sum: u64, group: Group) -> u64 {
     records::add(
         records::add(records::add(sum, group.held as u64), group.messages as u64),
         group.ci as u64,

@@ -3,8 +3,12 @@
 // Stands for an argument that cannot be read. No argument is this number.
 pub const UNREADABLE: u64 = u64::MAX;
 
-// One more than a case has arguments.
-pub const PLACES: usize = 14;
+// More than a case has arguments. The last two are for how many bytes are given and how many are lent.
+pub const PLACES: usize = 16;
+
+pub const GIVEN: usize = PLACES - 2;
+
+pub const LENT: usize = PLACES - 1;
 
 // Keeps a number at its place, and tells whether it is one.
 pub(crate) fn keep(numbers: &mut [u64], place: usize, number: u64) -> bool {

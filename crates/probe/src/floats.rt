@@ -21,7 +21,7 @@ fn number_of(bytes: [u8; 8]) -> u64 {
     let mut number: u64 = 0;
     let mut i: usize = 0;
     while i < 8 {
-        number = number % 72057594037927936 * 256 + wide(bytes[i]);
+        number = number % 0x0100_0000_0000_0000 * 256 + wide(bytes[i]);
         i += 1;
     }
     number
@@ -33,9 +33,9 @@ fn wide(byte: u8) -> u64
     byte as u64
 }
 
-// All ones in the exponent and something behind it is no number.
+// Without the sign, all ones in the exponent and something behind it is no number.
 pub(crate) fn of_bits(bits: u64) -> f64 {
-    if 9218868437227405312 < bits % 9223372036854775808 {
+    if 0x7ff0_0000_0000_0000 < bits % 0x8000_0000_0000_0000 {
         return 0.0 / 0.0;
     }
     f64::from_bits(bits)

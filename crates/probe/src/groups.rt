@@ -1,6 +1,5 @@
 // The groups' commands.
 use crate::arguments;
-use crate::cases;
 use crate::messages;
 use crate::put;
 use group::Group;
@@ -12,7 +11,7 @@ pub(crate) fn new_group(numbers: &[u64]) {
     let made = Group::new(arguments::medium(numbers, 1));
     let answer = made.answer;
     let group = made.group;
-    put::answer(cases::NEW_GROUP, answer);
+    put::answer(b"fresh", answer);
     put_state(group);
 }
 
@@ -24,6 +23,7 @@ pub(crate) fn join(numbers: &[u64], data: &[u8], buffer: &mut [u8]) {
     let next = stepped.group;
     put_answer(answer);
     put_state(next);
+    put::output(buffer);
 }
 
 fn put_answer(answer: Step) {
@@ -85,6 +85,7 @@ fn series_in(numbers: &[u64]) -> Series {
 pub(crate) fn write_group(numbers: &[u64], data: &[u8], output: &mut [u8]) {
     let wrote = writer::write_group(series_in(numbers), data, output);
     let answer = wrote.answer;
-    put::answer(cases::WRITE_GROUP, answer);
+    put::answer(b"written", answer);
     put::count(wrote.blocks);
+    put::output(output);
 }

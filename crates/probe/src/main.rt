@@ -10,7 +10,8 @@ mod put;
 mod rooms;
 mod surveys;
 
-ghost use Rattle.io.specs.Counts.{Counts};
+use arguments::GIVEN;
+use arguments::LENT;
 use arguments::PLACES;
 use channel::Channel;
 use libc::STDERR_FILENO;
@@ -18,9 +19,6 @@ use libc::STDIN_FILENO;
 use libc::STDOUT_FILENO;
 
 const LINE_FEED: u8 = 10;
-
-// The bytes of a line this long fit into 4,096, since each is two digits.
-const SHORT: usize = 8192;
 
 // How many bytes are held of the line that is being read, and whether answers can be written.
 struct Held {
@@ -57,25 +55,16 @@ fn call_plain(command: usize, numbers: &[u64], given: &[u8], lent: &[u8]) {
     }
 }
 
-// A line that fills its room is too long: it is taken for the empty one, which is no case either.
-fn fitting(length: usize, line: &[u8]) -> usize
-    ensures { λ r. ⌜ Counts r (now (line .entry)) ⌝ }
-{
-    if length < line.len() {
-        return rooms::within(length, line);
-    }
-    rooms::within(0, line)
-}
-
-// Answers a line, and tells whether the answer was written. A short line needs small rooms, whose zeros take no time.
+// Answers a line, and tells whether the answer was written. A line that fills its room is too long: it is taken for the
+// empty one, which is no case either. A short line needs small rooms, whose zeros take no time.
 fn answer(line: &[u8], length: usize) -> bool {
-    let count = fitting(length, line);
-    if count <= SHORT {
+    let count = rooms::within(length % rooms::LINE, line);
+    if count <= 2 * rooms::SMALL {
         let mut given = io::buffer();
         let mut lent = io::buffer();
         return answer_in(&line[..count], &mut given, &mut lent);
     }
-    let mut given = rooms::room();
+    let mut given = rooms::for_log();
     let mut lent = io::large_buffer();
     answer_in(&line[..count], &mut given, &mut lent)
 }
@@ -83,20 +72,10 @@ fn answer(line: &[u8], length: usize) -> bool {
 // Answers a line, in rooms for the bytes that it gives and lends.
 fn answer_in(line: &[u8], given: &mut [u8], lent: &mut [u8]) -> bool {
     let mut numbers = [0u64; PLACES];
-    let case = cases::read(line, &mut numbers, given, lent);
-    let n = rooms::within(case.given, given);
-    let m = rooms::within(case.lent, lent);
-    let output = &mut lent[..m];
-    call(case.command, &numbers, &given[..n], output);
-    end_line(case.command, output)
-}
-
-// Writes the bytes that were lent, where the answer ends with them, and the end of its line.
-fn end_line(command: usize, lent: &[u8]) -> bool {
-    if command < cases::FILLING {
-        put::tab();
-        put::bytes(lent);
-    }
+    let command = cases::read(line, &mut numbers, given, lent);
+    let n = rooms::within(arguments::count(&numbers, GIVEN), given);
+    let m = rooms::within(arguments::count(&numbers, LENT), lent);
+    call(command, &numbers, &given[..n], &mut lent[..m]);
     io::write_all(STDOUT_FILENO, b"\n")
 }
 
@@ -160,13 +139,8 @@ fn take_input(chunk: &mut [u8], line: &mut [u8]) {
     }
 }
 
-// A byte more than a case has at most.
-fn line_room() -> [u8; 262144] {
-    [0; 262144]
-}
-
 fn main() {
     let mut chunk = io::buffer();
-    let mut line = line_room();
+    let mut line = rooms::for_line();
     take_input(&mut chunk, &mut line);
 }

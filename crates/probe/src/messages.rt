@@ -1,11 +1,11 @@
 // The long message channel's commands. The bytes of a channel stand in the room that is lent.
-ghost use Prim.Native.Nat.{_<_};
+ghost use Prim.Native.Nat.{_≤_};
 use crate::arguments;
-use crate::cases;
 use crate::put;
 use channel::Channel;
 use channel::Fields;
 use channel::Header;
+use channel::MOST_GATHERED;
 use channel::Phase;
 use channel::Step;
 
@@ -29,10 +29,10 @@ fn state_in(numbers: &[u64], room: &[u8]) -> Channel {
     }
 }
 
-fn bytes_in(room: &[u8]) -> [u8; 260] {
-    let mut bytes = [0u8; 260];
+fn bytes_in(room: &[u8]) -> [u8; MOST_GATHERED] {
+    let mut bytes = [0u8; MOST_GATHERED];
     let mut i = 0;
-    while i < 260 {
+    while i < MOST_GATHERED {
         if room.len() <= i {
             return bytes;
         }
@@ -90,7 +90,7 @@ fn put_phase(phase: Phase) {
 
 // The fields of a message in six arguments from a place on: RI, CI, First, Last, number and COM.
 pub(crate) fn fields_from(numbers: &[u64], first: usize) -> Fields
-    requires { ⌜ first < 14 ⌝ }
+    requires { ⌜ first ≤ 6 ⌝ }
 {
     Fields {
         ri: arguments::small(numbers, first),
@@ -108,6 +108,7 @@ pub(crate) fn write_message(numbers: &[u64], data: &[u8], output: &mut [u8]) {
     let sc = arguments::small(numbers, 8);
     let wrote = writer::write_message(fields, di, sc, data, output);
     let answer = wrote.answer;
-    put::answer(cases::WRITE_MESSAGE, answer);
+    put::answer(b"written", answer);
     put::count(wrote.blocks);
+    put::output(output);
 }

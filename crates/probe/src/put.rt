@@ -1,7 +1,6 @@
 // Writes an answer to standard output, field by field. The answer's word or number comes first; each field behind it
 // brings the tab in front of it.
 ghost use Rattle.io.specs.Counts.{Counts};
-use crate::cases;
 use crate::rooms;
 use answers::Answer;
 use answers::Refusal;
@@ -15,10 +14,10 @@ pub(crate) fn refusal(refusal: Refusal) {
     io::print_decimal(STDOUT_FILENO, answers::number(refusal) as u64);
 }
 
-// The word of a command's success, or the number of the refusal.
-pub(crate) fn answer(command: usize, answer: Answer) {
+// The word of a success, or the number of the refusal.
+pub(crate) fn answer(success: &[u8], answer: Answer) {
     match answer {
-        Answer::Accepted => word(text::field(&cases::SUCCESSES, command)),
+        Answer::Accepted => word(success),
         Answer::Refused(number) => refusal(number),
     }
 }
@@ -62,16 +61,22 @@ pub(crate) fn float(value: f64) {
     io::print_hex(STDOUT_FILENO, f64::to_bits(value), 16);
 }
 
+// What was lent.
+pub(crate) fn output(output: &[u8]) {
+    tab();
+    bytes(output);
+}
+
 // Bytes in hexadecimal, and `.` where there are none, without a tab.
 pub(crate) fn bytes(bytes: &[u8]) {
     if bytes.len() == 0 {
         return word(b".");
     }
-    if bytes.len() <= 2048 {
+    if bytes.len() <= rooms::SMALL / 2 {
         let mut room = io::buffer();
         return spell(bytes, &mut room);
     }
-    let mut room = rooms::room();
+    let mut room = io::large_buffer();
     spell(bytes, &mut room);
 }
 

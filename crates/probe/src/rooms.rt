@@ -1,11 +1,23 @@
-// Rooms for bytes.
+// Rooms for bytes, and what fits into which: in a line a byte is two digits.
 ghost use Rattle.io.specs.Counts.{Counts};
 use crate::arguments::UNREADABLE;
 use text::Bytes;
 
-// 131,072 zeros, which a log may fill.
-pub(crate) fn room() -> [u8; 131072] {
-    [0; 131072]
+// A line that fills its room is too long.
+pub const LINE: usize = 262144;
+
+// What `io::buffer` has: the bytes of a line of twice as many, or the digits of half as many bytes.
+pub const SMALL: usize = 4096;
+
+// The most bytes of an argument but a log. `io::large_buffer` has room for their digits.
+pub const MOST_BYTES: usize = 32768;
+
+pub(crate) fn for_line() -> [u8; LINE] {
+    [0; LINE]
+}
+
+pub(crate) fn for_log() -> [u8; LINE / 2] {
+    [0; LINE / 2]
 }
 
 // How many of so many bytes a room has.

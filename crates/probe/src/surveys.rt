@@ -1,6 +1,5 @@
 // The survey's commands.
 use crate::arguments;
-use crate::cases;
 use crate::floats;
 use crate::put;
 use band::Kilohertz;
@@ -13,7 +12,7 @@ pub(crate) fn khz(numbers: &[u64]) {
     let told = band::to_kilohertz(channel);
     let answer = told.answer;
     let kilohertz = told.kilohertz;
-    put::answer(cases::KHZ, answer);
+    put::answer(b"khz", answer);
     put::wide(kilohertz.0);
 }
 
@@ -21,7 +20,7 @@ pub(crate) fn channel(numbers: &[u64]) {
     let told = band::to_channel(Kilohertz(arguments::wide(numbers, 1)));
     let answer = told.answer;
     let channel = told.channel;
-    put::answer(cases::CHANNEL, answer);
+    put::answer(b"channel", answer);
     put::small(channel.0);
 }
 
@@ -29,7 +28,7 @@ pub(crate) fn read_log(log: &[u8]) {
     let read = log::read(log);
     let answer = read.answer;
     let counts = read.counts;
-    put::answer(cases::LOG, answer);
+    put::answer(b"log", answer);
     put::wide(read.line);
     put_counts(counts);
 }
@@ -63,7 +62,7 @@ pub(crate) fn summarise(numbers: &[u64]) {
     let summarised = summary::summarise(counts_in(numbers));
     let answer = summarised.answer;
     let record = summarised.summary;
-    put::answer(cases::SUMMARY, answer);
+    put::answer(b"summary", answer);
     put::flag(record.mean_exists);
     put::float(record.mean);
     put::flag(record.missing_exists);
@@ -73,8 +72,9 @@ pub(crate) fn summarise(numbers: &[u64]) {
 pub(crate) fn report(numbers: &[u64], output: &mut [u8]) {
     let written = summary::report(counts_in(numbers), output);
     let answer = written.answer;
-    put::answer(cases::REPORT, answer);
+    put::answer(b"report", answer);
     put::count(written.length);
+    put::output(output);
 }
 
 // The summary in the four arguments behind the counts.
@@ -91,6 +91,7 @@ pub(crate) fn export(numbers: &[u64], output: &mut [u8]) {
     let summary = summary_in(numbers);
     let written = summary::export(counts_in(numbers), summary, output);
     let answer = written.answer;
-    put::answer(cases::EXPORT, answer);
+    put::answer(b"row", answer);
     put::count(written.length);
+    put::output(output);
 }
