@@ -1,16 +1,9 @@
 -- `Channel::step` makes the tests on the state and the block in order, and goes on with a right block. Assumes nothing.
-use Prim.Native.Nat.{ℕ, _+_, _%_}
 use mathlib.Core.Bool.{true, false}
-use mathlib.Core.List.{List}
-use mathlib.Core.Path.{_≡_, sym, ap, _∙_}
-use native.Mathlib.Omega.{arith}
+use mathlib.Core.Path.{_≡_, sym, _∙_}
 use borrow.Author.Tests.{ne-eqb, not-true, not-false}
-use lib.ListN.{length-drop}
-use lib.Seq.{paste}
-use Rattle.gf2.proofs.Lists.{tail-lent}
-use Rattle.channel.specs.State.{keepsRule, afterJoining, stepOf}
-use Rattle.channel.proofs.Laws.{rule-bytes}
-use Rattle.channel.proofs.Steps.{other-channel, wrong-check, waits, out-of-step, too-many, joins-on}
+use Rattle.channel.specs.State.{keepsRule, stepOf}
+use Rattle.channel.proofs.Steps.{other-channel, wrong-check}
 use borrow.Author.Needs.{needs}
 use Rattle.channel.proofs.Channel.step.Statement.{statement}
 use Rattle.channel.proofs.Channel.step.Tie as tie
