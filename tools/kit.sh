@@ -1,5 +1,7 @@
 # Shell functions for finding the Rattle kit and running a program that it compiled. Read by daphnorill and bench/run.
 
+machine=$(uname -m)
+
 # The folder of a file, with symbolic links followed.
 folder_of() { # FILE
     path=$1
@@ -7,7 +9,7 @@ folder_of() { # FILE
         link=$(readlink "$path")
         case $link in /*) path=$link ;; *) path=$(dirname "$path")/$link ;; esac
     done
-    (cd "$(dirname "$path")" && pwd -P)
+    (CDPATH='' cd -- "$(dirname -- "$path")" && pwd -P)
 }
 
 # The kit's part for this machine: where RATTLE_HOME says, or else where the command rt stands.
@@ -20,21 +22,20 @@ kit_on_machine() {
         echo 'there is no rt on the PATH: install the Rattle kit, and put its bin folder there' >&2
         return 1
     fi
-    echo "$home/on/$(uname -m)"
+    echo "$home/on/$machine"
 }
 
-# Runs a program that was compiled for x86-64: by itself there, and under the kit's emulator on another machine.
-run_program() { # FILE ARGUMENT ..
-    if [ "$(uname -m)" = x86_64 ]; then
-        "$@"
-        return
-    fi
-    kit=$(kit_on_machine) || return 2
+# Becomes a program that was compiled for x86-64: by itself there, and under the kit's emulator on another machine.
+exec_program() { # FILE ARGUMENT ..
+    if [ "$machine" = x86_64 ]; then exec "$@"; fi
+    kit=$(kit_on_machine) || exit 2
     tools=$kit/toolchain
     if [ ! -x "$tools/bin/qemu-x86_64" ]; then
         echo "$1 runs on x86-64, and the Rattle kit has no emulator for this machine at $tools" >&2
-        return 2
+        exit 2
     fi
     for word in $(env | sed -n 's/^\(QEMU_[A-Za-z0-9_]*\)=.*/\1/p'); do unset "$word"; done
-    "$tools/bin/qemu-x86_64" "$tools/lib/ld-linux-x86-64.so.2" --library-path "$tools/lib" "$@"
+    exec "$tools/bin/qemu-x86_64" "$tools/lib/ld-linux-x86-64.so.2" --library-path "$tools/lib" "$@"
 }
+
+run_program() { (exec_program "$@"); } # FILE ARGUMENT ..

@@ -1,6 +1,6 @@
 -- Laws of tests in order. Assumes nothing.
 use mathlib.Core.Path.{_≡_, refl}
-use mathlib.Core.Bool.{Bool, true, false, _&&_}
+use mathlib.Core.Bool.{Bool, true, false, cond, _&&_}
 use Rattle.answers.specs.Rules.{unless}
 
 -- two tests with one answer are one test
@@ -12,6 +12,10 @@ unless-and false b x y = refl
 pub unless-elim : {A : Type 0} (P : A → Type 0) (b : Bool) (x y : A) → P x → (b ≡ true → P y) → P (unless b x y)
 unless-elim P true x y px py = py refl
 unless-elim P false x y px py = px
+
+pub cond-with {ℓ} : {A : Type ℓ} (P : A → Type 0) (b : Bool) {x y : A} → (b ≡ true → P x) → (b ≡ false → P y) → P (cond b x y)
+cond-with P true px py = px refl
+cond-with P false px py = py refl
 
 -- what never holds of a test's refusal has, where it holds, passed the test
 pub unless-passed : {A : Type 0} (P : A → Type 0) (b : Bool) (x y : A) → (P x → ⊥) → P (unless b x y) → (b ≡ true) × P y

@@ -28,9 +28,14 @@ channel-back n e =
     let b : (87500 + 100 * n - 87500) / 100 ≡ n = omega (arith, r .0) in
     rw (le-leb 87600 (87500 + 100 * n) (omega arith), le-leb (87500 + 100 * n) 107900 (omega arith), f, b)
 
+pub in-channels : (f : ℕ) → isFrequency f ≡ true → isChannel ((f - 87500) / 100) ≡ true
+in-channels f e =
+    let r = in-band f e in
+    rw (le-leb 1 ((f - 87500) / 100) (omega (arith, r .0)), le-leb ((f - 87500) / 100) 204 (omega (arith, r .1)))
+
 -- AND A FREQUENCY'S CHANNEL HAS THAT FREQUENCY
 pub frequency-back : (f : ℕ) → isFrequency f ≡ true → kilohertzOf (record { 0 = (f - 87500) / 100 }) ≡ record { answer = accepted; number = f }
 frequency-back f e =
     let r = in-band f e in
     let n : 87500 + 100 * ((f - 87500) / 100) ≡ f = omega (arith, r .0, r .1, r .2) in
-    rw (le-leb 1 ((f - 87500) / 100) (omega (arith, r .0)), le-leb ((f - 87500) / 100) 204 (omega (arith, r .1)), n)
+    rw (in-channels f e, n)

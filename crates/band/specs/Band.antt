@@ -24,9 +24,12 @@ toldKilohertz r = record { answer = paper (r .answer); number = r .kilohertz .0 
 abbrev pub numberIf : Bool → ℕ → ToldNumber
 numberIf test n = unless test (record { answer = refused 11; number = 0 }) (record { answer = accepted; number = n })
 
+abbrev pub lastChannel : ℕ
+lastChannel = 204
+
 -- 1 to 204; 0 and 205 to 255 are reserved
 abbrev pub isChannel : ℕ → Bool
-isChannel n = leb 1 n && leb n 204
+isChannel n = leb 1 n && leb n lastChannel
 
 abbrev pub numberedOf : ℕ → ToldNumber
 numberedOf n = numberIf (isChannel n) n

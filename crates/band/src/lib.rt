@@ -5,6 +5,8 @@ ghost use Rattle.band.specs.Band.{isChannel, isFrequency, numberedOf, ki
 use answers::Answer;
 use answers::Refusal;
 
+pub const LAST_CHANNEL: u8 = 204;
+
 // A channel number, 1 to 204; 0 and 205 to 255 are reserved.
 pub struct Channel(pub u8);
 
@@ -62,22 +64,16 @@ pub fn to_channel(kilohertz: Kilohertz) -> ChannelAnswer
 {
     let frequency = kilohertz.0;
     if is_frequency(frequency) {
-        return ChannelAnswer {
-            answer: Answer::Accepted,
-            channel: Channel(((frequency - 87500) / 100) as u8),
-        };
+        return numbered((frequency - 87500) / 100);
     }
-    ChannelAnswer {
-        answer: Answer::Refused(Refusal::OutsideRule),
-        channel: Channel(0),
-    }
+    numbered(0)
 }
 
 // Whether this is a channel number, 1 to 204.
 pub fn is_channel(number: u32) -> bool
     ensures { λ r. ⌜ r ≡ isChannel number ⌝ }
 {
-    (1 <= number) & (number <= 204)
+    (1 <= number) & (number <= LAST_CHANNEL as u32)
 }
 
 fn is_frequency(frequency: u32) -> bool

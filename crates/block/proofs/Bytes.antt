@@ -8,11 +8,13 @@ use native.Mathlib.Omega.{arith}
 use borrow.Author.Tests.{eqb-true, eqb-false}
 use lib.Dec.{eqb}
 use lib.ListN.{length, getD, take, drop}
+use lib.Pow.{areBytes}
 use lib.Seq.{ext-getD, getD-take, getD-drop, length-take-le}
+use Rattle.answers.proofs.Bytes.{byte-at}
 use Rattle.gf2.proofs.Bits.{bit-lt}
 use Rattle.gf2.proofs.Lists.{Filled, length-rowFrom, getD-rowFrom}
 use Rattle.gf2.specs.Poly.{bit}
-use Rattle.block.specs.Bytes.{AreBytes, bitOf, rowOf, byteOf}
+use Rattle.block.specs.Bytes.{bitOf, rowOf, byteOf}
 
 pub length-rowOf : (bytes : List ℕ) → length (rowOf bytes) ≡ 8 * length bytes
 unfolding rowOf
@@ -72,8 +74,8 @@ bits-once (suc n) x y hx hy h =
     lowest false t e half = omega (arith, eqb-false (x / 2 ^ 0 % 2) 1 t, eqb-false (y / 2 ^ 0 % 2) 1 (sym e ∙ t))
 
 -- A ROW DETERMINES ITS BYTES
-pub row-once : (xs ys : List ℕ) → AreBytes xs → AreBytes ys → length xs ≡ length ys → rowOf xs ≡ rowOf ys → xs ≡ ys
-row-once xs ys bx by l e = ext-getD 0 xs ys l (λ k h. bits-once 8 (getD xs k 0) (getD ys k 0) (bx k) (by k) (λ j g. same k j h g))
+pub row-once : (xs ys : List ℕ) → areBytes xs ≡ true → areBytes ys ≡ true → length xs ≡ length ys → rowOf xs ≡ rowOf ys → xs ≡ ys
+row-once xs ys bx by l e = ext-getD 0 xs ys l (λ k h. bits-once 8 (getD xs k 0) (getD ys k 0) (byte-at xs bx k) (byte-at ys by k) (λ j g. same k j h g))
   where
     same : (k j : ℕ) → k < length xs → j < 8 → bitOf (getD xs k 0) j ≡ bitOf (getD ys k 0) j
     same k j h g =

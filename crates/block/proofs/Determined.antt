@@ -1,18 +1,19 @@
 -- NO TWO OUTCOMES MEET A PROMISE of this crate's public functions: what they return, and the output, where it holds bytes. Assumes nothing.
 use mathlib.Core.Path.{_≡_, sym, ap, _∙_, subst}
-use mathlib.Core.Bool.{Bool}
+use mathlib.Core.Bool.{Bool, true}
 use mathlib.Core.List.{List}
 use mathlib.Core.Logic.{inl, inr}
 use Prim.Native.Nat.{ℕ}
 use native.Mathlib.Omega.{arith}
 use lib.ListN.{length, take}
+use lib.Pow.{areBytes}
 use Rattle.answers.specs.Numbers.{paper}
 use Rattle.answers.specs.declared.Answer.{Answer}
 use Rattle.answers.proofs.Determined.{paper-once}
 use Rattle.code.specs.Code.{distance}
 use Rattle.code.proofs.Majority.{only-word}
 use Rattle.block.specs.declared.Corrected.{Corrected}
-use Rattle.block.specs.Bytes.{AreBytes, rowOf}
+use Rattle.block.specs.Bytes.{rowOf}
 use Rattle.block.specs.Corrector.{Near, WrongLength, NoCodeWord, Corrects}
 use Rattle.block.specs.Blocks.{CheckRight, Reads, Writes}
 use Rattle.block.proofs.Bytes.{row-once, length-rowOf}
@@ -34,7 +35,7 @@ found-once received {u} {v} l p q =
     let word : u ≡ v = only-word (rowOf received) u v (omega (arith, length-rowOf received)) (p .code) (q .code) (p .near) (q .near) in
     (word, p .counts ∙ ap (distance (rowOf received)) word ∙ sym (q .counts))
 
-module _ (received before : List ℕ) (r s : Corrected) (x y : List ℕ) (bx : AreBytes x) (by : AreBytes y) where
+module _ (received before : List ℕ) (r s : Corrected) (x y : List ℕ) (bx : areBytes x ≡ true) (by : areBytes y ≡ true) where
   -- `correct`
   pub correct-once : Corrects received before x (r .answer) (r .count) → Corrects received before y (s .answer) (s .count) → (r ≡ s) × (x ≡ y)
   correct-once (inl u) (inl v) = same-length 34 received before r s x y u v
@@ -74,7 +75,7 @@ module _ (received before : List ℕ) (r s : Corrected) (x y : List ℕ) (bx : A
       (returned r s (u .answers ∙ sym (v .answers)) (once .1), row-once x y bx by (u .long ∙ sym (v .long)) (u .given ∙ ap (take 176) (once .0) ∙ sym (v .given)))
 
 -- `write_block`
-pub write-block-once : (information before : List ℕ) (r s : Answer) (x y : List ℕ) → AreBytes x → AreBytes y → Writes information before x r → Writes information before y s → (r ≡ s) × (x ≡ y)
+pub write-block-once : (information before : List ℕ) (r s : Answer) (x y : List ℕ) → areBytes x ≡ true → areBytes y ≡ true → Writes information before x r → Writes information before y s → (r ≡ s) × (x ≡ y)
 write-block-once information before r s x y bx by (inl u) (inl v) = (paper-once r s (u .answers ∙ sym (v .answers)), u .same ∙ sym (v .same))
 write-block-once information before r s x y bx by (inl u) (inr v) = absurd (u .wrong (v .sized))
 write-block-once information before r s x y bx by (inr u) (inl v) = absurd (v .wrong (u .sized))

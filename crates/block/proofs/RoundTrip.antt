@@ -1,11 +1,12 @@
 -- The block reader and the block writer undo each other. Assumes nothing.
 use mathlib.Core.Path.{_≡_, refl, sym, ap, _∙_, subst}
-use mathlib.Core.Bool.{Bool}
+use mathlib.Core.Bool.{Bool, true}
 use mathlib.Core.List.{List, [], _∷_, _++_}
 use mathlib.Core.Logic.{inl, inr}
 use Prim.Native.Nat.{ℕ, _+_, _≤_}
 use native.Mathlib.Omega.{arith}
 use lib.ListN.{length, take, drop, take-append-drop}
+use lib.Pow.{areBytes}
 use lib.Seq.{take-take, take-at, drop-at}
 use Rattle.answers.specs.declared.Answer.{Answer}
 use Rattle.answers.specs.Numbers.{accepted, paper}
@@ -15,7 +16,7 @@ use Rattle.gf2.proofs.Remainders.{systematic-multiple}
 use Rattle.code.specs.Code.{generator, CodeWord, distance, mostCorrected}
 use Rattle.code.proofs.Computed.{generator-length}
 use Rattle.code.proofs.Majority.{code-length, only-word}
-use Rattle.block.specs.Bytes.{AreBytes, rowOf}
+use Rattle.block.specs.Bytes.{rowOf}
 use Rattle.block.specs.Corrector.{Word}
 use Rattle.block.specs.Blocks.{checkDivisor, CheckRight, blockRow, Information, Reads, Block}
 use Rattle.block.proofs.Bytes.{length-rowOf, row-once}
@@ -53,7 +54,7 @@ block-again word w right =
 -- WITH AT MOST EIGHT PLACES CHANGED the reader gives the written information, and the number of places
 pub changed-reads : (information block received before after : List ℕ) (answer : Answer) (count : ℕ)
     → length information ≡ 22 → rowOf block ≡ blockRow (rowOf information) → length received ≡ 34 → length before ≡ 22
-    → distance (rowOf received) (rowOf block) ≤ mostCorrected → AreBytes information → AreBytes after → Reads received before after answer count
+    → distance (rowOf received) (rowOf block) ≤ mostCorrected → areBytes information ≡ true → areBytes after ≡ true → Reads received before after answer count
     → (paper answer ≡ accepted) × (after ≡ information) × (count ≡ distance (rowOf received) (rowOf block))
 changed-reads information block received before after answer count li written lr lb near bi ba = outcome
   where
@@ -84,7 +85,7 @@ distance-self (b ∷ row) = omega (arith, distance-self row, ap bit (⊕-self b)
 
 -- WHAT IS WRITTEN READS BACK, with 0 corrected
 pub written-reads : (information room block before after : List ℕ) (made answer : Answer) (count : ℕ) → Block information room block made → length before ≡ 22
-    → AreBytes information → AreBytes after → Reads block before after answer count → (paper answer ≡ accepted) × (after ≡ information) × (count ≡ 0)
+    → areBytes information ≡ true → areBytes after ≡ true → Reads block before after answer count → (paper answer ≡ accepted) × (after ≡ information) × (count ≡ 0)
 written-reads information room block before after made answer count b lb bi ba r =
     let none = distance-self (rowOf block) in
     let read = changed-reads information block block before after answer count (b .sized .input) (b .written) (b .long) lb (omega arith) bi ba r in
@@ -92,7 +93,7 @@ written-reads information room block before after made answer count b lb bi ba r
 
 -- WHAT THE READER ACCEPTS, WRITTEN AGAIN, is the corrected code word
 pub read-again : (received before information room block out corrected : List ℕ) (a b c : Answer) (n m : ℕ) → Information received before information a n
-    → Block information room block b → Word received out corrected c m → AreBytes block → AreBytes corrected → block ≡ corrected
+    → Block information room block b → Word received out corrected c m → areBytes block ≡ true → areBytes corrected ≡ true → block ≡ corrected
 read-again received before information room block out corrected a b c n m i w v bb bc =
     row-once block corrected bb bc (w .long ∙ sym (v .long))
     (w .written ∙ ap blockRow (i .given) ∙ sym (block-again (i .word) (i .found .code) (i .right))

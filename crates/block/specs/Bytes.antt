@@ -1,14 +1,10 @@
 -- Document 01, "The block": 34 bytes and the 272 positions. Assumes nothing.
 use mathlib.Core.Bool.{Bool}
 use mathlib.Core.List.{List, [], _∷_}
-use Prim.Native.Nat.{ℕ, _+_, _*_, _/_, _%_, _^_, _<_}
+use Prim.Native.Nat.{ℕ, _+_, _*_, _/_, _%_, _^_}
 use lib.Dec.{eqb}
 use lib.ListN.{length, getD}
 use Rattle.gf2.specs.Poly.{bit, rowFrom}
-
--- bytes are numbers below 256
-abbrev pub AreBytes : List ℕ → Type 0
-AreBytes bytes = (k : ℕ) → getD bytes k 0 < 256
 
 -- the bit of weight 2^k
 unfoldable pub bitOf : ℕ → ℕ → Bool

@@ -6,8 +6,7 @@ use mathlib.Core.List.{List}
 use native.Mathlib.Nat.{div-one, mod-one, div-div-eq-div-mul}
 use native.Mathlib.Omega.{arith}
 use lib.Dec.{eqb}
-use Rattle.header.specs.Check.{check}
-use Rattle.header.specs.Fields.{total}
+use Rattle.header.specs.Header.{check, total}
 use Rattle.channel.specs.Layer4.{whereExt, sizeOf, layer4, opened, openedAt, extOf}
 use Rattle.channel.specs.declared.Header.{Header}
 use Rattle.channel.specs.declared.layer4.Opened.{Opened}

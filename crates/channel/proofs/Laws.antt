@@ -5,12 +5,13 @@ use mathlib.Core.Bool.{Bool, true, false, _&&_, and-eq-true-iff}
 use mathlib.Core.List.{List, _++_, append-assoc}
 use native.Mathlib.Omega.{arith}
 use borrow.Author.Tests.{eqb-true, leb-true}
+use borrow.Rule.Slice.PartAt.{part-to-end}
 use borrow.Rule.Slice.PartMut.{putMid}
 use lib.Dec.{eqb, leb}
 use lib.ListN.{length, take, drop}
 use lib.Seq.{paste, drop-drop}
-use Rattle.gf2.proofs.Lists.{tail-lent, tail-back}
-use Rattle.header.specs.Check.{check}
+use Rattle.gf2.proofs.Lists.{tail-back}
+use Rattle.header.specs.Header.{check}
 use Rattle.header.proofs.Bits.{check-wider}
 use Rattle.channel.specs.Layer4.{sizeOf}
 use Rattle.channel.specs.State.{keepsRule, phaseHolds}
@@ -52,7 +53,7 @@ pub copied : (buffer s filled : List ℕ) (at n : ℕ) → n ≡ length buffer �
 copied buffer s filled at n l e =
     let k = length s in
     let front : putMid at (n - at) buffer filled ≡ take at buffer ++ filled = rw l (tail-back buffer filled at) in
-    let rest : drop k (take (n - at) (drop at buffer)) ≡ drop (at + k) buffer = rw l (ap (drop k) (tail-lent buffer at) ∙ drop-drop k at buffer) in
+    let rest : drop k (take (n - at) (drop at buffer)) ≡ drop (at + k) buffer = rw l (ap (drop k) (part-to-end buffer at) ∙ drop-drop k at buffer) in
     front
     ∙ ap (λ (r : List ℕ). take at buffer ++ r) (e ∙ ap (λ (r : List ℕ). take k s ++ r) rest)
     ∙ sym (append-assoc (take at buffer) (take k s) (drop (at + k) buffer))

@@ -7,7 +7,7 @@ use native.Mathlib.Omega.{arith}
 use lib.ListN.{length, getD, drop, replicate}
 use lib.Pow.{pow-add}
 use Rattle.gf2.proofs.Lists.{drop-one}
-use Rattle.header.specs.Fields.{behind}
+use Rattle.header.specs.Header.{behind}
 
 next-power : (i : ℕ) → 2 ^ (8 * (i + 1)) ≡ 2 ^ (8 * i) * 256
 next-power i = let e : 8 * (i + 1) ≡ 8 * i + 8 = omega arith in rw e (pow-add 2 (8 * i) 8)

@@ -8,7 +8,7 @@ use borrow.Author.Tests.{eq-eqb, le-leb, ltb-true}
 use lib.Dec.{eqb, ltb}
 use lib.ListN.{length}
 use Rattle.answers.proofs.Rules.{unless-elim}
-use Rattle.header.specs.Fields.{total, holds}
+use Rattle.header.specs.Header.{total, holds}
 use Rattle.channel.specs.Answers.{ChannelAfter}
 use Rattle.channel.specs.Layer3.{layer3, headerOf, siLchOf, lfOf, scOf}
 use Rattle.channel.specs.State.{channelWith, fresh, keepsRule, isWaiting, asWaiting, afterJoining, stepOf}

@@ -5,7 +5,7 @@ use mathlib.Core.Path.{_≡_}
 use mathlib.Core.Bool.{Bool}
 use mathlib.Core.List.{List, [], _∷_}
 use lib.ListN.{take}
-use Rattle.header.specs.Fields.{total, field, flag, holds, headerFrom}
+use Rattle.header.specs.Header.{total, field, flag, holds, headerFrom}
 use Rattle.channel.specs.declared.layer3.BlockHeader.{BlockHeader}
 
 abbrev pub layer3 : List ℕ

@@ -5,7 +5,7 @@ use mathlib.Core.List.{List, [], _∷_}
 use lib.Dec.{eqb, leb}
 use lib.ListN.{length, getD, take, drop}
 use Rattle.answers.specs.Rules.{unless}
-use Rattle.header.specs.Fields.{total, field, flag, holds, headerFrom}
+use Rattle.header.specs.Header.{total, field, flag, holds, headerFrom}
 use Rattle.channel.specs.Answers.{Outcome, message, refused}
 use Rattle.channel.specs.declared.Header.{Header}
 use Rattle.channel.specs.declared.layer4.Opened.{Opened}
@@ -55,8 +55,8 @@ abbrev pub rightForm : Bool → ℕ → Bool
 rightForm ext number = cond ext (leb 512 number) true
 
 -- the bytes of a header and its data
-abbrev pub endOf : Header → ℕ
-endOf m = m .size + m .length
+abbrev pub messageSize : Header → ℕ
+messageSize m = m .size + m .length
 
 -- the least number of 20-byte blocks that holds n bytes
 abbrev pub blocksFor : ℕ → ℕ
@@ -64,7 +64,7 @@ blocksFor n = (n + 19) / 20
 
 -- the blocks that a header and its data fill: at least one, since a header has bytes
 abbrev pub blocksFilled : Header → ℕ
-blocksFilled m = blocksFor (endOf m)
+blocksFilled m = blocksFor (messageSize m)
 
 -- the data stands behind the header
 abbrev pub dataOf : Header → List ℕ → List ℕ
@@ -82,9 +82,9 @@ tested o bytes =
     (unless (o .checked) (refused 4)
     (unless (eqb (o .rfa) 0) (refused 6)
     (unless (rightForm (m .ext) (m .number)) (refused 6)
-    (unless (leb (endOf m) 260) (refused 14)
+    (unless (leb (messageSize m) 260) (refused 14)
     (unless (eqb (blocksFilled m * 20) (length bytes)) (refused 7)
-    (unless (isPadding (drop (endOf m) bytes)) (refused 7)
+    (unless (isPadding (drop (messageSize m) bytes)) (refused 7)
     (message m)))))))
 
 unfoldable pub messageOf : List ℕ → Outcome

@@ -6,7 +6,7 @@ use lib.Dec.{eqb, leb, ltb}
 use lib.ListN.{length, take, drop, replicate}
 use lib.Seq.{paste}
 use Rattle.answers.specs.Rules.{unless}
-use Rattle.header.specs.Fields.{total, holds}
+use Rattle.header.specs.Header.{total, holds}
 use Rattle.channel.specs.Answers.{taken, refused, ChannelAfter, channelAfter}
 use Rattle.channel.specs.Layer3.{layer3, headerOf, siLchOf, lfOf, scOf}
 use Rattle.channel.specs.Layer4.{messageOf}

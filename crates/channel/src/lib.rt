@@ -4,7 +4,7 @@ ghost use mathlib.Core.Bool.{true};
 ghost use mathlib.Core.Path.{_≡_};
 ghost use Prim.Native.Nat.{_*_, _<_, _≤_, _^_};
 ghost use lib.ListN.{length};
-ghost use Rattle.header.specs.Fields.{headerFrom};
+ghost use Rattle.header.specs.Header.{headerFrom};
 ghost use Rattle.channel.specs.Answers.{toldStep};
 ghost use Rattle.channel.specs.Layer3.{headerOf, Reads};
 ghost use Rattle.channel.specs.Layer4.{sizeOf, blocksFor};

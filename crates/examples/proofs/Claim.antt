@@ -6,15 +6,16 @@ use mathlib.Core.Logic.{inl, inr}
 use Prim.Native.Nat.{ℕ, zero, suc, _+_, _*_, _≤_}
 use native.Mathlib.Omega.{arith}
 use borrow.Author.Tests.{le-leb, lt-leb}
-use lib.Dec.{T, leb, ltb, ltb→lt, lit≤, lit<}
-use lib.Ieee.Fits.{and-l, and-r}
+use lib.Dec.{T, leb, lit≤}
+use lib.Ieee.Fits.{and-r}
 use lib.ListN.{length, getD, replicate}
+use lib.Pow.{areBytes}
 use Rattle.code.specs.Code.{generator, CodeWord, distance}
 use Rattle.code.proofs.Majority.{only-word, nine-away}
-use Rattle.block.specs.Bytes.{AreBytes, bitOf, rowOf}
+use Rattle.block.specs.Bytes.{bitOf, rowOf}
 use Rattle.block.specs.Blocks.{checkDivisor, CheckRight}
 use Rattle.block.proofs.Bytes.{row-once, length-rowOf}
-use Rattle.header.specs.Check.{bits, check}
+use Rattle.header.specs.Header.{bits, check}
 use Rattle.channel.specs.Layer4.{sizeOf, blocksFor}
 use Rattle.channel.specs.State.{fresh, keepsRule, asWaiting, stepOf}
 use Rattle.writer.specs.Message.{ToldBlocks}
@@ -23,18 +24,8 @@ use Rattle.writer.proofs.Writing.{message-count, message-written}
 use Rattle.band.specs.Band.{ToldNumber}
 use Rattle.examples.specs.Table.{word, noWord, generatorLast, wrongCheck, clearedWord, clearedNoWord, headerHolds, headerRefused, khz, reserved, short, extended, Holds, AllHold, Cleared, Fills, zeros, generatorBlock, table}
 
--- numbers below 256, by one computed test
-abbrev allBytes : List ℕ → Bool
-allBytes [] = true
-allBytes (x ∷ xs) = ltb x 256 && allBytes xs
-
-bytes : (xs : List ℕ) → T (allBytes xs) → AreBytes xs
-bytes [] t k = lit< tt
-bytes (x ∷ xs) t zero = ltb→lt x 256 (and-l (ltb x 256) (allBytes xs) t)
-bytes (x ∷ xs) t (suc k) = bytes xs (and-r (ltb x 256) (allBytes xs) t) k
-
 -- a code word at so many places is what the corrector answers with
-word-holds : (received corrected : List ℕ) (count : ℕ) → length received ≡ 34 → length corrected ≡ 34 → AreBytes corrected → CodeWord (rowOf corrected)
+word-holds : (received corrected : List ℕ) (count : ℕ) → length received ≡ 34 → length corrected ≡ 34 → areBytes corrected ≡ true → CodeWord (rowOf corrected)
     → distance (rowOf received) (rowOf corrected) ≡ count → count ≤ 8 → Holds (word received corrected count)
 word-holds received corrected count lr lc bc code away near before after answer n lb ba (inl u) = absurd (u .wrong (record { input = lr; output = lb }))
 word-holds received corrected count lr lc bc code away near before after answer n lb ba (inr (inl u)) = absurd (u .none (rowOf corrected) code (omega arith))
@@ -83,11 +74,11 @@ generator-check e = false≢true (sym (ap (λ row. getD row 13 false) e))
 
 p1 : Holds (word (zeros 34) (zeros 34) 0)
 unfolding rowOf bitOf
-p1 = word-holds (zeros 34) (zeros 34) 0 refl refl (bytes (zeros 34) tt) zero-code refl (lit≤ tt)
+p1 = word-holds (zeros 34) (zeros 34) 0 refl refl refl zero-code refl (lit≤ tt)
 
 p2 : Holds (word (255 ∷ zeros 33) (zeros 34) 8)
 unfolding rowOf bitOf
-p2 = word-holds (255 ∷ zeros 33) (zeros 34) 8 refl refl (bytes (zeros 34) tt) zero-code refl (lit≤ tt)
+p2 = word-holds (255 ∷ zeros 33) (zeros 34) 8 refl refl refl zero-code refl (lit≤ tt)
 
 p3 : Holds (noWord (255 ∷ 1 ∷ zeros 32))
 unfolding rowOf bitOf
@@ -95,7 +86,7 @@ p3 = noWord-holds (255 ∷ 1 ∷ zeros 32) (zeros 34) refl zero-code refl
 
 p4 : Holds (word generatorBlock generatorBlock 0)
 unfolding rowOf bitOf
-p4 = word-holds generatorBlock generatorBlock 0 refl refl (bytes generatorBlock tt) generator-code refl (lit≤ tt)
+p4 = word-holds generatorBlock generatorBlock 0 refl refl refl generator-code refl (lit≤ tt)
 
 p4-read : Holds (wrongCheck generatorBlock 0)
 unfolding rowOf bitOf
@@ -155,7 +146,7 @@ p5 : Holds (clearedWord 10 (zeros 34) 8)
 unfolding rowOf bitOf
 p5 = (
   (eightLeft, cleared 10 eightLeft refl refl tt),
-  λ received c. word-holds received (zeros 34) 8 (c .long) refl (bytes (zeros 34) tt) zero-code (omega (arith, left 10 received c)) (lit≤ tt),
+  λ received c. word-holds received (zeros 34) 8 (c .long) refl refl zero-code (omega (arith, left 10 received c)) (lit≤ tt),
 )
 
 p5-nine : Holds (clearedNoWord 9)

@@ -5,10 +5,11 @@ use mathlib.Core.Bool.{Bool, true, false}
 use mathlib.Core.List.{List, [], _∷_, _++_}
 use Prim.Native.Nat.{ℕ, _*_, _≤_}
 use lib.ListN.{length, getD, replicate}
+use lib.Pow.{areBytes}
 use Rattle.answers.specs.declared.Answer.{Answer}
 use Rattle.answers.specs.Numbers.{accepted, refused, paper}
 use Rattle.code.specs.Code.{generator, distance}
-use Rattle.block.specs.Bytes.{AreBytes, rowOf}
+use Rattle.block.specs.Bytes.{rowOf}
 use Rattle.block.specs.Corrector.{Corrects}
 use Rattle.block.specs.Blocks.{Reads}
 use Rattle.channel.specs.declared.Channel.{Channel}
@@ -84,7 +85,7 @@ table =
 -- every outcome of the corrector for these bytes: accepted, with this word and this count
 abbrev pub GivesWord : (received corrected : List ℕ) (count : ℕ) → Type 0
 GivesWord received corrected count =
-    (before after : List ℕ) (answer : Answer) (n : ℕ) → length before ≡ 34 → AreBytes after → Corrects received before after answer n
+    (before after : List ℕ) (answer : Answer) (n : ℕ) → length before ≡ 34 → areBytes after ≡ true → Corrects received before after answer n
     → (paper answer ≡ accepted) × (after ≡ corrected) × (n ≡ count)
 
 -- every outcome of the corrector for these bytes: answer 2, count 0, the output as before

@@ -9,17 +9,14 @@ use native.Mathlib.Numerals.{add-one}
 use native.Mathlib.Omega.{arith}
 use borrow.Rule.Slice.PartMut.{putMid}
 use lib.ListN.{length, getD, set, take, drop, length-drop, drop-of-length-le}
-use lib.Seq.{getD-set-same, getD-set-other, drop-cons, take-all, take-suc, length-take-le, set-at, ext-getD}
+use lib.Seq.{getD-set-same, getD-set-other, drop-cons, take-suc, length-take-le, set-at, ext-getD}
 use Rattle.gf2.specs.Poly.{rowFrom}
 
 -- a list from a place on: what stands there, and what is behind it
 pub drop-one {ℓ} : {A : Type ℓ} (xs : List A) (i : ℕ) (d : A) → i < length xs → drop i xs ≡ getD xs i d ∷ drop (i + 1) xs
 drop-one xs i d h = rw add-one (drop-cons xs i d h)
 
--- the part of a slice from a on, lent and given back
-pub tail-lent : {A : Type 0} (xs : List A) (a : ℕ) → take (length xs - a) (drop a xs) ≡ drop a xs
-tail-lent xs a = take-all (length xs - a) (drop a xs) (omega (arith, length-drop a xs))
-
+-- the part of a slice from a on, given back
 pub tail-back : {A : Type 0} (xs ys : List A) (a : ℕ) → putMid a (length xs - a) xs ys ≡ take a xs ++ ys
 tail-back {A} xs ys a =
     ap (λ (zs : List A). take a xs ++ (ys ++ zs)) (drop-of-length-le (drop a xs) {i = length xs - a} (omega (arith, length-drop a xs)))

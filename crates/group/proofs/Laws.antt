@@ -1,7 +1,7 @@
 -- Tests taken apart, and the rules of a state and of a message as bounds. Assumes nothing.
 use Prim.Native.Nat.{ℕ, _*_, _≤_}
 use mathlib.Core.Path.{_≡_}
-use mathlib.Core.Bool.{Bool, true, false, cond, _&&_, and-eq-true-iff}
+use mathlib.Core.Bool.{true, _&&_, and-eq-true-iff}
 use native.Mathlib.Omega.{arith}
 use borrow.Author.Tests.{eqb-true, leb-true}
 use lib.Dec.{eqb, leb}
@@ -10,11 +10,6 @@ use Rattle.group.specs.State.{phaseHolds, keepsRule, messageFits}
 use Rattle.group.specs.declared.Group.{Group}
 use Rattle.group.specs.declared.Phase.{Phase}
 use Rattle.group.specs.declared.Phase.the-variants.{Idle, Gathering}
-
--- what holds on both sides of a test holds of it
-pub cond-elim : {A : Type 0} (P : Bool → A → Type 0) (b : Bool) (x y : A) → P true x → P false y → P b (cond b x y)
-cond-elim P true x y px py = px
-cond-elim P false x y px py = py
 
 -- at most fifteen messages, 255 bytes for each, and a CI of two bits
 phase-room : (p : Phase) (held messages ci : ℕ) → phaseHolds p held messages ci ≡ true → (held ≤ 255 * messages) × (messages ≤ 15) × (ci ≤ 3)

@@ -2,19 +2,20 @@
 use Prim.Native.Nat.{ℕ, _+_, _%_, _≤_}
 use mathlib.Core.Path.{_≡_, refl, sym, ap, _∙_, subst}
 use mathlib.Core.Bool.{Bool, true, false, not, cond}
-use mathlib.Core.List.{List, [], _∷_, _++_}
+use mathlib.Core.List.{List, [], _∷_, _++_, map}
 use native.Mathlib.Omega.{arith}
 use borrow.Author.Tests.{leb-true}
 use lib.Dec.{eqb, leb, ltb}
 use lib.ListN.{length, take, length-append}
 use lib.Seq.{paste, take-paste, take-length, length-take-le}
-use Rattle.group.specs.Answers.{Outcome, taken, whole, refused, outcome, GroupAfter, toldJoin}
+use Rattle.answers.specs.Rules.{stateLeft}
+use Rattle.group.specs.Answers.{Outcome, taken, whole, refused, GroupAfter}
 use Rattle.group.specs.State.{idle, keepsRule, messageFits, isIdle, joinedOn, joinOf}
-use Rattle.group.specs.Leading.{Message, JoinResult, Joins, joinAnswers, groupLeft, bufferLeft, joinedTo, changesNothing, joinedAfter, joinedBy, Leads}
+use Rattle.group.specs.Leading.{Message, GroupAndBuffer, JoinResult, toldResult, joinMessage, leftBy, Joins, joinedTo, changesNothing, joinedAfter, joinedBy, Leads}
 use Rattle.group.specs.declared.Group.{Group}
-use Rattle.group.specs.declared.Stepped.{Stepped}
-use Rattle.answers.proofs.Rules.{unless-elim}
-use Rattle.group.proofs.Laws.{cond-elim, rule-room}
+use Rattle.answers.proofs.Rules.{unless-elim, cond-with}
+use Rattle.answers.proofs.Runs.{runOf, run-told}
+use Rattle.group.proofs.Laws.{rule-room}
 
 -- the data behind the bytes held
 pub front : (buffer s : List ℕ) (held : ℕ) → held ≤ length buffer → take (held + length s) (paste buffer held s (length s)) ≡ take held buffer ++ s
@@ -26,18 +27,18 @@ front-length buffer s held h = length-append (take held buffer) s ∙ ap (λ (n 
 -- ---- one message
 
 -- the state counts these bytes, and the buffer begins with them
-abbrev Counts : Group → List ℕ → List ℕ → Type 0
-Counts g buffer joined = (g .held ≡ length joined) × (take (length joined) buffer ≡ joined)
+abbrev Counts : GroupAndBuffer → List ℕ → Type 0
+Counts s joined = (s .group .held ≡ length joined) × (take (length joined) (s .buffer) ≡ joined)
 
 module _ (g : Group) (buffer : List ℕ) (m : Message) where
   -- what each answer tells of the state and of the buffer left, with the data joined on
-  abbrev Tells : List ℕ → Outcome → Group → List ℕ → Type 0
-  Tells joined taken h after = Counts h after joined
-  Tells joined (whole n) h after = (n ≡ length joined) × (take n after ≡ joined) × (h ≡ idle (g .number))
-  Tells joined (refused n) h after = (h ≡ cond (changesNothing n) g (idle (g .number))) × (after ≡ buffer)
+  abbrev Tells : List ℕ → Outcome → GroupAndBuffer → Type 0
+  Tells joined taken left = Counts left joined
+  Tells joined (whole n) left = (n ≡ length joined) × (take n (left .buffer) ≡ joined) × (left .group ≡ idle (g .number))
+  Tells joined (refused n) left = (left .group ≡ cond (changesNothing n) g (idle (g .number))) × (left .buffer ≡ buffer)
 
   abbrev Told : List ℕ → GroupAfter → Type 0
-  Told joined l = Tells joined (l .answer) (l .group) (l .buffer)
+  Told joined t = Tells joined (t .answer) (leftBy t)
 
   joined-told : (b : Group) → b .number ≡ g .number → b .held ≤ length buffer → Told (take (b .held) buffer ++ m .bytes) (joinedOn b (m .fields) (m .bytes) buffer)
   unfolding joinedOn
@@ -45,11 +46,11 @@ module _ (g : Group) (buffer : List ℕ) (m : Message) where
       let d = take (b .held) buffer ++ m .bytes in
       let n = front-length buffer (m .bytes) (b .held) h in
       let f = front buffer (m .bytes) (b .held) h in
-      cond-elim (λ _. Told d) (m .fields .last) _ _ (sym n, f, ap idle e)
-      (sym n, ap (λ (k : ℕ). take k (paste buffer (b .held) (m .bytes) (length (m .bytes)))) n ∙ f)
+      cond-with (Told d) (m .fields .last) (λ _. (sym n, f, ap idle e))
+      λ _. (sym n, ap (λ (k : ℕ). take k (paste buffer (b .held) (m .bytes) (length (m .bytes)))) n ∙ f)
 
   told : Told (joinedTo (take (g .held) buffer) m) (joinOf g (m .fields) (m .bytes) buffer)
-  unfolding joinOf
+  unfolding joinOf joinedOn
   told =
       let d = joinedTo (take (g .held) buffer) m in
       unless-elim (Told d) (leb 3825 (length buffer)) _ _ (refl, refl) λ l.
@@ -57,7 +58,8 @@ module _ (g : Group) (buffer : List ℕ) (m : Message) where
       unless-elim (Told d) (messageFits (m .fields) (length (m .bytes))) _ _ (refl, refl) λ _.
       unless-elim (Told d) (eqb (m .fields .number) (g .number)) _ _ (refl, refl) λ _.
       unless-elim (Told d) (not (m .fields .command)) _ _ (refl, refl) λ _.
-      cond-elim (λ b. Told (cond b (m .bytes) (take (g .held) buffer ++ m .bytes))) (m .fields .first) _ _ (joined-told (idle (g .number)) refl (omega arith))
+      cond-with (Told d) (m .fields .first) (λ first. rw first (joined-told (idle (g .number)) refl (omega arith)))
+      λ first. rw first
       (let e = take (g .held) buffer ++ m .bytes in
       unless-elim (Told e) (not (isIdle (g .phase))) _ _ (refl, refl) λ _.
       unless-elim (Told e) (eqb (m .fields .ci) ((g .ci + 1) % 4)) _ _ (refl, refl) λ _.
@@ -65,55 +67,53 @@ module _ (g : Group) (buffer : List ℕ) (m : Message) where
       joined-told g refl (omega (arith, rule-room g rule, leb-true 3825 (length buffer) l)))
 
   -- A REFUSAL CHANGES NO BYTE; 10, 11 AND 13 LEAVE THE STATE AS IT STOOD, AND ANY OTHER IDLE
-  pub refused-kept : (r : Stepped) (after : List ℕ) (n : ℕ) → toldJoin r after ≡ joinOf g (m .fields) (m .bytes) buffer → outcome (r .answer) ≡ refused n
-      → (r .group ≡ cond (changesNothing n) g (idle (g .number))) × (after ≡ buffer)
-  refused-kept r after n did e =
+  pub refused-kept : (j : JoinResult) (n : ℕ) → toldResult j ≡ joinOf g (m .fields) (m .bytes) buffer → toldResult j .answer ≡ refused n
+      → (j .stepped .group ≡ cond (changesNothing n) g (idle (g .number))) × (j .buffer ≡ buffer)
+  refused-kept j n did e =
       let d = joinedTo (take (g .held) buffer) m in
-      subst (λ (o : Outcome). Tells d o (r .group) after) e (subst (Told d) (sym did) told)
+      subst (λ (o : Outcome). Tells d o (leftBy (toldResult j))) e (subst (Told d) (sym did) told)
 
 -- ---- a run of messages
 
-module _ (g : Group) (buffer joined : List ℕ) (c : Counts g buffer joined) where
+module _ (s : GroupAndBuffer) (joined : List ℕ) (c : Counts s joined) where
   -- 10, 11 and 13 leave what is counted, and an idle state counts nothing
-  counts-kept : (b : Bool) (h : Group) (after : List ℕ) → h ≡ cond b g (idle (g .number)) → after ≡ buffer → Counts h after (cond b joined [])
-  counts-kept true h after p q = (ap (λ (k : Group). k .held) p ∙ c .0, ap (take (length joined)) q ∙ c .1)
-  counts-kept false h after p q = (ap (λ (k : Group). k .held) p, refl)
+  counts-kept : (b : Bool) (left : GroupAndBuffer) → left .group ≡ cond b (s .group) (idle (s .group .number)) → left .buffer ≡ s .buffer → Counts left (cond b joined [])
+  counts-kept true left p q = (ap (λ (g : Group). g .held) p ∙ c .0, ap (take (length joined)) q ∙ c .1)
+  counts-kept false left p q = (ap (λ (g : Group). g .held) p, refl)
 
-  counts-after : (m : Message) (o : Outcome) (h : Group) (after : List ℕ) → Tells g buffer m (joinedTo joined m) o h after → Counts h after (joinedAfter o joined m)
-  counts-after m taken h after t = t
-  counts-after m (whole n) h after t = (ap (λ (k : Group). k .held) (t .2), refl)
-  counts-after m (refused n) h after t = counts-kept (changesNothing n) h after (t .0) (t .1)
+  counts-after : (m : Message) (o : Outcome) (left : GroupAndBuffer) → Tells (s .group) (s .buffer) m (joinedTo joined m) o left → Counts left (joinedAfter o joined m)
+  counts-after m taken left t = t
+  counts-after m (whole n) left t = (ap (λ (g : Group). g .held) (t .2), refl)
+  counts-after m (refused n) left t = counts-kept (changesNothing n) left (t .0) (t .1)
 
-  counted-told : (m : Message) (r : Stepped) (after : List ℕ) → toldJoin r after ≡ joinOf g (m .fields) (m .bytes) buffer → Told g buffer m (joinedTo joined m) (toldJoin r after)
-  counted-told m r after did =
-      let held : take (g .held) buffer ≡ joined = ap (λ (k : ℕ). take k buffer) (c .0) ∙ c .1 in
-      subst (Told g buffer m (joinedTo joined m)) (sym did)
-      (subst (λ (d : List ℕ). Told g buffer m (joinedTo d m) (joinOf g (m .fields) (m .bytes) buffer)) held (told g buffer m))
+  counted-told : (m : Message) → Told (s .group) (s .buffer) m (joinedTo joined m) (joinMessage s m)
+  counted-told m =
+      let held : take (s .group .held) (s .buffer) ≡ joined = ap (λ (k : ℕ). take k (s .buffer)) (c .0) ∙ c .1 in
+      rw (← held) (told (s .group) (s .buffer) m)
 
-  leads : Leads g buffer joined
+  leads : Leads s joined
   leads =
       record {
         counted = c .0;
         begins = c .1;
-        completed = λ m r after n did e.
-            let t = subst (λ (o : Outcome). Tells g buffer m (joinedTo joined m) o (r .group) after) e (counted-told m r after did) in
+        completed = λ m j n did e.
+            let d = joinedTo joined m in
+            let t = subst (λ (o : Outcome). Tells (s .group) (s .buffer) m d o (leftBy (toldResult j))) e (subst (Told (s .group) (s .buffer) m d) (sym did) (counted-told m)) in
             (t .0, t .1);
       }
 
-run-counts : (g : Group) (buffer : List ℕ) (messages : List Message) (joins : List JoinResult) (joined : List ℕ) → Joins g buffer messages joins → Counts g buffer joined
-    → Counts (groupLeft g joins) (bufferLeft buffer joins) (joinedBy (joinAnswers joins) joined messages)
-run-counts g buffer [] [] joined did c = c
-run-counts g buffer [] (j ∷ joins) joined did c = absurd did
-run-counts g buffer (m ∷ messages) [] joined did c = absurd did
-run-counts g buffer (m ∷ messages) (j ∷ joins) joined did c =
-    let r = j .stepped in
-    let o = outcome (r .answer) in
-    run-counts (r .group) (j .buffer) messages joins (joinedAfter o joined m) (did .1)
-    (counts-after g buffer joined c m o (r .group) (j .buffer) (counted-told g buffer joined c m r (j .buffer) (did .0)))
+run-leads : (s : GroupAndBuffer) (messages : List Message) (joined : List ℕ) → Counts s joined
+    → let told = runOf joinMessage leftBy s messages in Leads (stateLeft leftBy s told) (joinedBy told joined messages)
+run-leads s [] joined c = leads s joined c
+run-leads s (m ∷ messages) joined c =
+    let t = joinMessage s m in
+    run-leads (leftBy t) messages (joinedAfter (t .answer) joined m) (counts-after s joined c m (t .answer) (leftBy t) (counted-told s joined c m))
 
 -- After any messages whatever, from a state whose counted bytes the buffer has, as it has those of a fresh one, which counts none.
-pub leading-bytes : (g : Group) (buffer : List ℕ) (messages : List Message) (joins : List JoinResult) → Joins g buffer messages joins → g .held ≤ length buffer
-    → Leads (groupLeft g joins) (bufferLeft buffer joins) (joinedBy (joinAnswers joins) (take (g .held) buffer) messages)
-leading-bytes g buffer messages joins did h =
-    let n = length-take-le (g .held) buffer h in
-    leads _ _ _ (run-counts g buffer messages joins (take (g .held) buffer) did (sym n, ap (λ (k : ℕ). take k buffer) n))
+pub leading-bytes : (s : GroupAndBuffer) (messages : List Message) (joins : List JoinResult) → Joins s messages joins → s .group .held ≤ length (s .buffer)
+    → let told = map toldResult joins in Leads (stateLeft leftBy s told) (joinedBy told (take (s .group .held) (s .buffer)) messages)
+leading-bytes s messages joins did h =
+    let n = length-take-le (s .group .held) (s .buffer) h in
+    subst (λ (told : List GroupAfter). Leads (stateLeft leftBy s told) (joinedBy told (take (s .group .held) (s .buffer)) messages))
+    (sym (run-told joinMessage leftBy toldResult s messages joins did))
+    (run-leads s messages (take (s .group .held) (s .buffer)) (sym n, ap (λ (k : ℕ). take k (s .buffer)) n))

@@ -8,12 +8,12 @@ use borrow.Author.Tests.{le-leb, leb-true, ltb-true}
 use lib.Dec.{eqb, leb, ltb}
 use lib.ListN.{length}
 use Rattle.channel.specs.declared.Fields.{Fields}
-use Rattle.answers.proofs.Rules.{unless-elim}
+use Rattle.answers.proofs.Rules.{unless-elim, cond-with}
 use Rattle.group.specs.Answers.{GroupAfter, Made}
 use Rattle.group.specs.State.{groupWith, idle, newOf, phaseHolds, keepsRule, messageFits, isIdle, joinedOn, joinOf}
 use Rattle.group.specs.declared.Group.{Group}
 use Rattle.group.specs.declared.Phase.the-variants.{Gathering}
-use Rattle.group.proofs.Laws.{cond-elim, rule-room, within-bounds}
+use Rattle.group.proofs.Laws.{rule-room, within-bounds}
 
 pub rule-number : (g : Group) → keepsRule g ≡ true → g .number ≤ 16383
 unfolding keepsRule
@@ -41,8 +41,8 @@ module _ (m : Fields) (s buffer : List ℕ) (fits : messageFits m (length s) ≡
   unfolding joinedOn
   joined-kept g hn hh hm =
       let b = within-bounds m (length s) fits in
-      cond-elim (λ _. Kept) (m .last) _ _ (idle-rule (g .number) hn)
-      (gathering-rule (g .number) (g .held) (g .messages) (length s) (m .ci) hn hh hm (b .0) (b .1))
+      cond-with Kept (m .last) (λ _. idle-rule (g .number) hn)
+      λ _. gathering-rule (g .number) (g .held) (g .messages) (length s) (m .ci) hn hh hm (b .0) (b .1)
 
 pub rule-kept : (g : Group) (m : Fields) (s buffer : List ℕ) → keepsRule g ≡ true → keepsRule (joinOf g m s buffer .group) ≡ true
 unfolding joinOf
@@ -54,11 +54,11 @@ rule-kept g m s buffer rule =
     unless-elim Kept (messageFits m (length s)) _ _ rule λ fits.
     unless-elim Kept (eqb (m .number) (g .number)) _ _ rule λ _.
     unless-elim Kept (not (m .command)) _ _ rule λ _.
-    cond-elim (λ _. Kept) (m .first) _ _ (joined-kept m s buffer fits (idle (g .number)) n (omega arith) (omega arith))
-    (unless-elim Kept (not (isIdle (g .phase))) _ _ idles λ _.
+    cond-with Kept (m .first) (λ _. joined-kept m s buffer fits (idle (g .number)) n (omega arith) (omega arith)) λ _.
+    unless-elim Kept (not (isIdle (g .phase))) _ _ idles λ _.
     unless-elim Kept (eqb (m .ci) ((g .ci + 1) % 4)) _ _ idles λ _.
     unless-elim Kept (ltb (g .messages) 15) _ _ idles λ l.
-    joined-kept m s buffer fits g n (rule-room g rule .0) (ltb-true (g .messages) 15 l))
+    joined-kept m s buffer fits g n (rule-room g rule .0) (ltb-true (g .messages) 15 l)
 
 pub new-rule : (number : ℕ) → keepsRule (newOf number .group) ≡ true
 unfolding newOf

@@ -6,8 +6,9 @@ use mathlib.Core.Bool.{Bool, cond, _||_}
 use mathlib.Core.List.{List, [], _∷_, _++_}
 use lib.Dec.{eqb}
 use lib.ListN.{length, take}
+use Rattle.answers.specs.Rules.{Run}
 use Rattle.channel.specs.declared.Fields.{Fields}
-use Rattle.group.specs.Answers.{Outcome, taken, whole, refused, outcome, toldJoin}
+use Rattle.group.specs.Answers.{Outcome, taken, whole, refused, GroupAfter, toldJoin}
 use Rattle.group.specs.State.{joinOf}
 use Rattle.group.specs.declared.Group.{Group}
 use Rattle.group.specs.declared.Stepped.{Stepped}
@@ -17,31 +18,28 @@ pub record Message : Type 0 where
   pub fields : Fields
   pub bytes : List ℕ
 
+-- a group state and the buffer lent with it
+pub record GroupAndBuffer : Type 0 where
+  pub group : Group
+  pub buffer : List ℕ
+
 -- what `Group::join` gives back, and the buffer as it leaves it
 pub record JoinResult : Type 0 where
   pub stepped : Stepped
   pub buffer : List ℕ
 
+abbrev pub toldResult : JoinResult → GroupAfter
+toldResult j = toldJoin (j .stepped) (j .buffer)
+
 -- what it gives for message after message, each time from the state and with the buffer that it left
-abbrev pub Joins : Group → List ℕ → List Message → List JoinResult → Type 0
-Joins g buffer [] [] = Unit
-Joins g buffer [] (j ∷ joins) = ⊥
-Joins g buffer (m ∷ messages) [] = ⊥
-Joins g buffer (m ∷ messages) (j ∷ joins) =
-    (toldJoin (j .stepped) (j .buffer) ≡ joinOf g (m .fields) (m .bytes) buffer) × Joins (j .stepped .group) (j .buffer) messages joins
+abbrev pub joinMessage : GroupAndBuffer → Message → GroupAfter
+joinMessage s m = joinOf (s .group) (m .fields) (m .bytes) (s .buffer)
 
--- every answer, and the state and the buffer at the end
-abbrev pub joinAnswers : List JoinResult → List Outcome
-joinAnswers [] = []
-joinAnswers (j ∷ joins) = outcome (j .stepped .answer) ∷ joinAnswers joins
+abbrev pub leftBy : GroupAfter → GroupAndBuffer
+leftBy t = record { group = t .group; buffer = t .buffer }
 
-abbrev pub groupLeft : Group → List JoinResult → Group
-groupLeft g [] = g
-groupLeft g (j ∷ joins) = groupLeft (j .stepped .group) joins
-
-abbrev pub bufferLeft : List ℕ → List JoinResult → List ℕ
-bufferLeft buffer [] = buffer
-bufferLeft buffer (j ∷ joins) = bufferLeft (j .buffer) joins
+abbrev pub Joins : GroupAndBuffer → List Message → List JoinResult → Type 0
+Joins = Run (λ s m j. toldResult j ≡ joinMessage s m) (λ j. leftBy (toldResult j))
 
 -- the joined data with that of a message; with a First whatever was gathered is dropped
 abbrev pub joinedTo : List ℕ → Message → List ℕ
@@ -58,16 +56,16 @@ joinedAfter taken joined m = joinedTo joined m
 joinedAfter (whole n) joined m = []
 joinedAfter (refused n) joined m = cond (changesNothing n) joined []
 
--- and after a run of messages, by their answers
-abbrev pub joinedBy : List Outcome → List ℕ → List Message → List ℕ
+-- and after a run of messages, by what is told of each
+abbrev pub joinedBy : List GroupAfter → List ℕ → List Message → List ℕ
 joinedBy [] joined messages = joined
-joinedBy (o ∷ answers) joined [] = joined
-joinedBy (o ∷ answers) joined (m ∷ messages) = joinedBy answers (joinedAfter o joined m) messages
+joinedBy (t ∷ told) joined [] = joined
+joinedBy (t ∷ told) joined (m ∷ messages) = joinedBy told (joinedAfter (t .answer) joined m) messages
 
 -- The leading bytes are the joined data: the state counts as many bytes, and the buffer begins with them. And where one message more is answered
 -- "group", its length is that of the joined data with its own (with a First its own alone), which the buffer then begins with.
-pub record Leads (g : Group) (buffer joined : List ℕ) : Type 0 where
-  pub counted : g .held ≡ length joined
-  pub begins : take (length joined) buffer ≡ joined
-  pub completed : (m : Message) (r : Stepped) (after : List ℕ) (n : ℕ) → toldJoin r after ≡ joinOf g (m .fields) (m .bytes) buffer → outcome (r .answer) ≡ whole n
-      → (n ≡ length (joinedTo joined m)) × (take n after ≡ joinedTo joined m)
+pub record Leads (s : GroupAndBuffer) (joined : List ℕ) : Type 0 where
+  pub counted : s .group .held ≡ length joined
+  pub begins : take (length joined) (s .buffer) ≡ joined
+  pub completed : (m : Message) (j : JoinResult) (n : ℕ) → toldResult j ≡ joinMessage s m → toldResult j .answer ≡ whole n
+      → (n ≡ length (joinedTo joined m)) × (take n (j .buffer) ≡ joinedTo joined m)

@@ -5,7 +5,6 @@ use mathlib.Core.List.{List}
 use lib.Dec.{eqb, leb, ltb}
 use lib.ListN.{length}
 use lib.Seq.{paste}
-use Rattle.answers.specs.Numbers.{accepted}
 use Rattle.answers.specs.Numbers as numbers
 use Rattle.answers.specs.Rules.{unless}
 use Rattle.channel.specs.declared.Fields.{Fields}
@@ -23,7 +22,7 @@ idle number = groupWith number Idle 0 0 0
 
 -- asked for a number above 16,383 the answer is 11, with the fresh state of number 0
 unfoldable pub newOf : ℕ → Made
-newOf number = unless (leb number 16383) (made (numbers.refused 11) (idle 0)) (made accepted (idle number))
+newOf number = unless (leb number 16383) (made (numbers.refused 11) (idle 0)) (made numbers.accepted (idle number))
 
 -- idle holds 0 bytes, 0 messages and CI 0; gathering holds 1 to 15 messages, at most 255 bytes for each, and a CI
 abbrev pub phaseHolds : Phase → ℕ → ℕ → ℕ → Bool

@@ -1,4 +1,4 @@
+pub mod Fields
 pub mod Bits
 pub mod Sums
-pub mod Fields
 pub mod Determined

@@ -3,7 +3,8 @@ use Prim.Native.Nat.{ℕ, zero, suc, _+_, _*_, _/_, _%_, _^_, _<_, _≤_}
 use mathlib.Core.Path.{_≡_, refl, sym, ap, ap₂, _∙_, subst}
 use mathlib.Core.Bool.{Bool, true, false, _&&_}
 use mathlib.Core.List.{List, [], _∷_, map}
-use native.Mathlib.Nat.{mod-lt, mod-one, mod-eq-of-lt, zero-add, lt-of-le-of-lt}
+use native.Mathlib.Nat.{mod-lt, mod-one, mod-eq-of-lt, zero-add, lt-of-le-of-lt, pow-suc}
+use native.Mathlib.Numerals.{add-one}
 use native.Mathlib.Omega.{arith}
 use lib.Bits.{bitAnd, and-block, and-lt, and-mod, and-le-l}
 use lib.Count.{ones, ones-cat, onesIn}
@@ -16,8 +17,8 @@ use Rattle.gf2.proofs.Bits.{bit-lt}
 use Rattle.gf2.proofs.Lists.{drop-one}
 use Rattle.gf2.proofs.Remainders.{check-bit, length-check, add-none, allZero-zeros}
 use Rattle.gf2.proofs.Tested.{tested}
-use Rattle.header.specs.Check.{bits, onto, six}
-use Rattle.header.proofs.Bits.{length-bits, doubled}
+use Rattle.header.specs.Header.{bits, six}
+use Rattle.header.proofs.Bits.{bit-of, length-bits, bits-more, onto}
 
 -- a number is odd
 abbrev odd : ℕ → Bool
@@ -91,7 +92,8 @@ unfolding bits
 sums-check zero x h = sym (no-sums summed x)
 sums-check (suc n) x h =
     let b = eqb (x / 2 ^ n % 2) 1 in
-    check-bit six b (bits n x)
+    ap (checkOf six) (bits-more n x)
+    ∙ check-bit six b (bits n x)
     ∙ ap (λ (k : ℕ). add (scale b (brought k)) (checkOf six (bits n x))) (length-bits n x)
     ∙ ap₂ (λ (ws rs : List Bool). add (scale b ws) rs) (as-table n (omega arith)) (sums-check n x (omega arith))
     ∙ sym (more-sums summed n x)
@@ -101,11 +103,6 @@ check-row : (x : ℕ) → x < 2 ^ 64 → checkOf six (bits 64 x) ≡ map (sumOf 
 check-row x h =
     let whole : (m : ℕ) → bitAnd (x % 2 ^ 64) (m % 2 ^ 64) ≡ bitAnd x m = λ m. sym (and-mod x m 64) ∙ mod-eq-of-lt (lt-of-le-of-lt (and-le-l x m) h) in
     sums-check 64 x (omega arith) ∙ (λ i. map (λ m. odd (ones (whole m i))) summed)
-
-bit-odd : (r : ℕ) → r < 2 → bit (eqb r 1) ≡ r
-bit-odd zero h = refl
-bit-odd (suc zero) h = refl
-bit-odd (suc (suc r)) h = absurd (omega arith)
 
 -- a check bit more
 pub check-turn : (x : ℕ) → x < 2 ^ 64 → (whole so-far i : ℕ) → i < 6 → so-far < 2 ^ i → onto so-far (drop i (checkOf six (bits 64 x))) ≡ whole
@@ -117,5 +114,6 @@ check-turn x h whole so-far i below small e sum is =
     let here : getD row i (sumOf x 0) ≡ b = ap (λ (r : List Bool). getD r i (sumOf x 0)) (check-row x h) ∙ List·getD-map (sumOf x) summed i 0 in
     let next : drop i row ≡ b ∷ drop (i + 1) row =
     drop-one row i (sumOf x 0) (omega (arith, length-check six (bits 64 x))) ∙ ap (λ (v : Bool). v ∷ drop (i + 1) row) here in
-    let now : bit b ≡ sum = bit-odd (ones (bitAnd x (getD summed i 0)) % 2) (mod-lt (ones (bitAnd x (getD summed i 0))) (omega arith)) ∙ sym is in
-    (omega (arith, doubled i, bit-lt b, now), ap (λ (s : ℕ). onto (so-far * 2 + s) (drop (i + 1) row)) (sym now) ∙ ap (onto so-far) (sym next) ∙ e)
+    let now : bit b ≡ sum = bit-of (ones (bitAnd x (getD summed i 0)) % 2) (mod-lt (ones (bitAnd x (getD summed i 0))) (omega arith)) ∙ sym is in
+    let double : 2 ^ (i + 1) ≡ 2 ^ i * 2 = rw add-one (pow-suc 2 i) in
+    (omega (arith, bit-lt b), ap (λ (s : ℕ). onto (so-far * 2 + s) (drop (i + 1) row)) (sym now) ∙ ap (onto so-far) (sym next) ∙ e)

@@ -1,9 +1,9 @@
 // Headers of the long message channel (document 01): the six-bit check. How fields stand in a header, and that reading
-// and writing undo each other, is in specs/Fields.antt and proofs/Fields.antt, once for headers of any fields.
+// and writing undo each other, is in specs/Header.antt and in proofs/, once for headers of any fields.
 ghost use mathlib.Core.Path.{_≡_};
 ghost use Prim.Native.Nat.{_%_, _<_};
 ghost use lib.Count.{ones};
-ghost use Rattle.header.specs.Check.{check};
+ghost use Rattle.header.specs.Header.{check};
 
 // For each check bit, the highest first, the bits of a header that it sums: bit n where x^(n + 6) leaves that check bit as it
 // is divided by x^6 + x^4 + x^3 + 1.

@@ -1,20 +1,21 @@
 -- A log that comes on standard input: no contract can name the bytes that the operating system hands over, so these say that there
 -- are some. Assumes nothing.
-use Prim.Native.Nat.{ℕ, _<_}
+use Prim.Native.Nat.{ℕ}
 use mathlib.Core.Path.{_≡_}
+use mathlib.Core.Bool.{true}
 use mathlib.Core.List.{List}
-use lib.ListN.{getD}
+use lib.Pow.{areBytes}
 use Rattle.log.specs.declared.Reader.{Reader}
 use Rattle.log.specs.Reader.{ToldLog, freshReader, run, readOf}
 
 -- what is told of the bytes, read as a log
 pub record Came (t : ToldLog) : Type 0 where
   pub bytes : List ℕ
-  pub small : (k : ℕ) → getD bytes k 0 < 256
+  pub small : areBytes bytes ≡ true
   pub read : readOf bytes ≡ t
 
 -- the bytes so far lead to this reader
 pub record Reached (s : Reader) : Type 0 where
   pub bytes : List ℕ
-  pub small : (k : ℕ) → getD bytes k 0 < 256
+  pub small : areBytes bytes ≡ true
   pub led : run freshReader bytes ≡ s

@@ -11,7 +11,8 @@ use lib.Dec.{eqb}
 use borrow.Author.Tests.{eq-eqb}
 use Rattle.text.specs.Fields.{sameAs}
 use Rattle.log.specs.Decimal.{decimal}
-use Rattle.log.specs.Log.{tab, firstLine, slotLine, last, channelUpTo}
+use Rattle.text.specs.Ascii.{tab}
+use Rattle.log.specs.Log.{firstLine, slotLine, last, channelUpTo}
 use Rattle.log.proofs.Lists.{cond-with, same-snoc, same-none, same-append, same-true, take-last}
 use Rattle.log.proofs.Decimal.{decimal-few, decimal-more}
 

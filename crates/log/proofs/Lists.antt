@@ -1,19 +1,16 @@
 -- Laws of tests, and of texts that are the same. Assumes nothing.
 use Prim.Native.Nat.{ℕ, suc, _-_, _≤_}
 use mathlib.Core.Path.{_≡_, refl, ap, sym, _∙_}
-use mathlib.Core.Bool.{Bool, true, false, cond, _&&_, false≢true, and-eq-true-iff, and-true, and-false, and-assoc}
+use mathlib.Core.Bool.{Bool, true, false, _&&_, false≢true, and-eq-true-iff, and-true, and-false, and-assoc}
 use mathlib.Core.List.{List, [], _∷_, _++_}
 use native.Mathlib.Omega.{arith}
 use mir.Val.{boolByte}
-use lib.ListN.{length, getD, take, drop, length-drop}
-use lib.Seq.{take-suc, take-all}
+use lib.ListN.{length, getD, take}
+use lib.Seq.{take-suc}
 use lib.Dec.{eqb}
 use borrow.Author.Tests.{eqb-true, eq-eqb}
+pub use Rattle.answers.proofs.Rules.{cond-with}
 use Rattle.text.specs.Fields.{sameAs}
-
-pub cond-with {ℓ} : {A : Type ℓ} (P : A → Type 0) (t : Bool) {x y : A} → (t ≡ true → P x) → (t ≡ false → P y) → P (cond t x y)
-cond-with P true f g = f refl
-cond-with P false f g = g refl
 
 pub by-cases {ℓ} : (P : Type ℓ) (t : Bool) → (t ≡ true → P) → (t ≡ false → P) → P
 by-cases P true f g = f refl
@@ -62,9 +59,6 @@ pub take-last : (l : List ℕ) (i : ℕ) → 1 ≤ i → i ≤ length l → take
 take-last l i h k =
     let e : i ≡ suc (i - 1) = omega arith in
     ap (λ (j : ℕ). take j l) e ∙ take-suc l (i - 1) 0 (omega arith)
-
-pub tail-part : (n : ℕ) (l : List ℕ) → n ≤ length l → take (length l - n) (drop n l) ≡ drop n l
-tail-part n l h = take-all (length l - n) (drop n l) (rw length-drop (omega arith))
 
 pub same-true : (a b : List ℕ) → sameAs a b ≡ true → a ≡ b
 same-true [] [] e = refl

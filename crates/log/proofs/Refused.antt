@@ -11,7 +11,7 @@ use borrow.Author.Tests.{leb-true, leb-false, ne-eqb}
 use Rattle.log.specs.declared.Reader.{Reader}
 use Rattle.log.specs.declared.Phase.the-variants.{Open, Refused}
 use Rattle.log.specs.Log.{logText}
-use Rattle.log.specs.Reader.{ToldLog, between, freshReader, run, endedAt, wholeOf, readOf, isPlain}
+use Rattle.log.specs.Reader.{ToldLog, between, freshReader, run, afterEnd, wholeOf, readOf, isPlain}
 use Rattle.log.specs.Beginning.{Beginning, nothing, lines, textOf, isGood, countsOf, GoodLine, Stops, refusedAfter, toldOf}
 use Rattle.log.proofs.Lists.{by-cases}
 use Rattle.log.proofs.Plain.{lines-with}
@@ -21,7 +21,7 @@ use Rattle.log.proofs.Beginnings.{good, slots-are, tuned-some, next-lin
 
 -- the end of a reader, told
 abbrev ends : Reader → ToldLog
-ends s = wholeOf (endedAt (s .phase) s)
+ends s = wholeOf (afterEnd s)
 
 after-told : (b : Beginning) (rest : List ℕ) (s : Reader) → isGood b ≡ true → run (between Open (countsOf b)) rest ≡ s
     → readOf (textOf b ++ rest) ≡ ends s

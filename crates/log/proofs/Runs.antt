@@ -5,7 +5,7 @@ use mathlib.Core.Bool.{Bool, true, false, cond, not, _&&_, _||_, false≢true, a
 use mathlib.Core.List.{List, [], _∷_, _++_, append-assoc, append-nil}
 use native.Mathlib.Numerals.{add-one}
 use native.Mathlib.Omega.{arith}
-use lib.ListN.{length, getD, drop, set, replicate, length-append, length-drop, take-append-drop, length-replicate}
+use lib.ListN.{length, getD, take, drop, set, replicate, length-append, length-drop, take-append-drop, length-replicate}
 use lib.Seq.{drop-cons, take-append-seam, set-append-seam, drop-append-seam, length-take-le}
 use lib.Dec.{eqb, ltb}
 use borrow.Author.Tests.{lt-ltb, leb-true, le-leb, eqb-true, eqb-false, ltb-true, not-true}
@@ -16,10 +16,14 @@ use Rattle.log.specs.declared.Reader.{Reader}
 use Rattle.log.specs.declared.Phase.{Phase}
 use Rattle.log.specs.declared.Phase.the-variants.{Open, Refused, Ended}
 use Rattle.log.specs.Log.{isSound, judged}
-use Rattle.log.specs.Reader.{ToldFed, between, freshReader, lineOf, afterLine, openStep, isOpen, afterByte, run, badLine, fine, fedAt, endedAt, isPlain, isHeld, isHolding, isBefore, isReader}
+use Rattle.log.specs.Reader.{ToldFed, between, freshReader, afterLine, openStep, isOpen, afterByte, run, badLine, fine, afterPiece, afterEnd, isPlain, isHeld, isHolding, isBefore, isReader}
 use Rattle.log.proofs.Lists.{cond-with, by-cases, same-refl, same-true}
 use Rattle.log.proofs.Plain.{plain-none, plain-append, plain-one, plain-tail}
 use Rattle.log.proofs.Outcomes.{judged-before}
+
+-- the line so far
+abbrev lineOf : Reader → List ℕ
+lineOf s = take (s .length) (s .held)
 
 pub run-none : (s : Reader) → run s [] ≡ s
 unfolding run
@@ -225,21 +229,19 @@ refused-between s k o =
     same-reader s (between Refused (s .counts)) (e .0) refl (subst (λ (n : ℕ). drop n (s .held) ≡ drop n zeros) (e .1) (r .clear)) (e .1)
 
 -- after a piece
-pub fed-refused : (s : Reader) → Kept s → isOpen (s .phase) ≡ false → fedAt (s .phase) s ≡ badLine (between Refused (s .counts))
-fed-refused s k o = ap (λ (t : Reader). fedAt (t .phase) t) (refused-between s k o)
+pub fed-refused : (s : Reader) → Kept s → isOpen (s .phase) ≡ false → afterPiece s ≡ badLine (between Refused (s .counts))
+fed-refused s k o = ap afterPiece (refused-between s k o)
 
-pub fed-open : (s : Reader) → isOpen (s .phase) ≡ true → fedAt (s .phase) s ≡ fine s
-fed-open s o = ap (λ (p : Phase). fedAt p s) (opened (s .phase) o)
+pub fed-open : (s : Reader) → isOpen (s .phase) ≡ true → afterPiece s ≡ fine s
+fed-open s o = rw o
 
-either : (a b : Bool) (x y : ToldFed) → unless (not a) x (unless b x y) ≡ cond (a || not b) x y
-either true b x y = refl
-either false true x y = refl
-either false false x y = refl
+either : (o a b : Bool) (x y : ToldFed) → unless (o && not a && b) x y ≡ cond (not o || a || not b) x y
+either false a b x y = refl
+either true true b x y = refl
+either true false true x y = refl
+either true false false x y = refl
 
--- and at the end, of a refused reader as of one that has not ended well
-pub ended : (s : Reader) → Kept s
-    → endedAt (s .phase) s ≡ cond (not (isOpen (s .phase)) || eqb (s .counts .channel) 0 || not (eqb (s .length) 0)) (badLine (between Refused (s .counts))) (fine (between Ended (s .counts)))
-ended s k =
-    by-cases _ (isOpen (s .phase))
-    (λ o. rw o (ap (λ (p : Phase). endedAt p s) (opened (s .phase) o) ∙ either (eqb (s .counts .channel) 0) (eqb (s .length) 0) _ _))
-    (λ o. rw o (ap (λ (t : Reader). endedAt (t .phase) t) (refused-between s k o)))
+-- and at the end
+pub ended : (s : Reader)
+    → afterEnd s ≡ cond (not (isOpen (s .phase)) || eqb (s .counts .channel) 0 || not (eqb (s .length) 0)) (badLine (between Refused (s .counts))) (fine (between Ended (s .counts)))
+ended s = either (isOpen (s .phase)) (eqb (s .counts .channel) 0) (eqb (s .length) 0) _ _

@@ -16,7 +16,8 @@ use Rattle.log.specs.declared.Judged.{Judged}
 use Rattle.log.specs.declared.Reader.{Reader}
 use Rattle.log.specs.declared.Phase.the-variants.{Open}
 use Rattle.log.specs.Decimal.{decimal}
-use Rattle.log.specs.Log.{tab, firstLine, slotLine, isOutcome, slotLines, logText, allOutcomes, counted, countsFrom, tuned, last, channelUpTo, isNext, judged}
+use Rattle.text.specs.Ascii.{tab}
+use Rattle.log.specs.Log.{firstLine, slotLine, isOutcome, slotLines, logText, allOutcomes, counted, countsFrom, tuned, last, channelUpTo, isNext, judged}
 use Rattle.log.specs.Reader.{between, freshReader, afterLine, run, isPlain, isBefore}
 use Rattle.log.proofs.Lists.{by-cases, same-refl, same-true}
 use Rattle.log.proofs.Decimal.{decimal-length, decimal-plain, decimal-once}

@@ -9,7 +9,8 @@ use lib.Dec.{leb}
 use Rattle.answers.specs.Numbers.{accepted, refused}
 use Rattle.band.specs.Band.{isChannel}
 use Rattle.log.specs.declared.Counts.{Counts}
-use Rattle.log.specs.Log.{lineFeed, firstLine, slotLine, isOutcome, logText, allOutcomes, countsFrom, tuned}
+use Rattle.text.specs.Ascii.{lineFeed}
+use Rattle.log.specs.Log.{greatestSlot, firstLine, slotLine, isOutcome, logText, allOutcomes, countsFrom, tuned}
 use Rattle.log.specs.Reader.{ToldLog, readOf}
 
 -- The lines that a log begins with: none, or the first line and one line a slot.
@@ -25,7 +26,7 @@ textOf (lines channel outcomes) = logText channel outcomes
 -- good ones: a channel number, then up to 999,999 slots with an outcome each
 abbrev pub isGood : Beginning → Bool
 isGood nothing = true
-isGood (lines channel outcomes) = isChannel channel && allOutcomes outcomes && leb (length outcomes) 999999
+isGood (lines channel outcomes) = isChannel channel && allOutcomes outcomes && leb (length outcomes) greatestSlot
 
 abbrev pub countsOf : Beginning → Counts
 countsOf nothing = tuned 0
@@ -38,7 +39,7 @@ nextLine (lines channel outcomes) = length outcomes + 2
 
 -- the line of the slot after so many, up to slot 999,999, with some outcome
 abbrev pub GoodSlot : ℕ → List ℕ → Type 0
-GoodSlot slots line = (outcome : ℕ) × (isOutcome outcome ≡ true) × (slots < 999999) × (line ≡ slotLine (slots + 1) outcome)
+GoodSlot slots line = (outcome : ℕ) × (isOutcome outcome ≡ true) × (slots < greatestSlot) × (line ≡ slotLine (slots + 1) outcome)
 
 -- a line that may come next: the first line of some channel, and then the next slot's. None is near the 64 bytes that a line may have.
 abbrev pub GoodLine : Beginning → List ℕ → Type 0

@@ -4,26 +4,20 @@ use mathlib.Core.Bool.{Bool, true, cond, not, _&&_, _||_}
 use mathlib.Core.List.{List, [], _∷_, _++_}
 use lib.ListN.{length, getD}
 use lib.Dec.{ltb, leb, eqb}
+use Rattle.text.specs.Ascii.{ascii, byte, tab, lineFeed}
 use Rattle.text.specs.Fields.{sameAs}
-use Rattle.band.specs.Band.{isChannel}
+use Rattle.band.specs.Band.{lastChannel, isChannel}
 use Rattle.log.specs.declared.Counts.{Counts}
 use Rattle.log.specs.declared.Judged.{Judged}
 use Rattle.log.specs.Decimal.{decimal}
 
--- fields are parted by a tab, and each line is ended by a line feed
-abbrev pub tab : ℕ
-tab = 9
-
-abbrev pub lineFeed : ℕ
-lineFeed = 10
-
--- `channel`
-abbrev pub channelWord : List ℕ
-channelWord = 99 ∷ 104 ∷ 97 ∷ 110 ∷ 110 ∷ 101 ∷ 108 ∷ []
+-- the slots of a log are at most 999,999
+abbrev pub greatestSlot : ℕ
+greatestSlot = 999999
 
 -- the first line, without its line feed: `channel` and a channel number
 unfoldable pub firstLine : ℕ → List ℕ
-firstLine channel = channelWord ++ (tab ∷ decimal channel)
+firstLine channel = ascii "channel\t" ++ decimal channel
 
 -- a slot's line: the slot number and an outcome
 unfoldable pub slotLine : ℕ → ℕ → List ℕ
@@ -31,11 +25,11 @@ slotLine slot outcome = decimal slot ++ (tab ∷ outcome ∷ [])
 
 -- `0` to `8`, the corrected bits
 abbrev pub isCorrected : ℕ → Bool
-isCorrected outcome = leb 48 outcome && leb outcome 56
+isCorrected outcome = leb (byte "0") outcome && leb outcome (byte "8")
 
 -- or `n`, answer 2; `c`, answer 3; `-`, nothing received
 unfoldable pub isOutcome : ℕ → Bool
-isOutcome outcome = isCorrected outcome || eqb outcome 110 || eqb outcome 99 || eqb outcome 45
+isOutcome outcome = isCorrected outcome || eqb outcome (byte "n") || eqb outcome (byte "c") || eqb outcome (byte "-")
 
 -- the lines of the slots from this one on
 unfoldable pub slotLines : ℕ → List ℕ → List ℕ
@@ -62,11 +56,11 @@ counted counts outcome =
       channel = counts .channel;
       slots = counts .slots + 1;
       read = counts .read + one (isCorrected outcome);
-      clean = counts .clean + one (eqb outcome 48);
-      bits = counts .bits + cond (isCorrected outcome) (outcome - 48) 0;
-      noword = counts .noword + one (eqb outcome 110);
-      check = counts .check + one (eqb outcome 99);
-      missing = counts .missing + one (eqb outcome 45);
+      clean = counts .clean + one (eqb outcome (byte "0"));
+      bits = counts .bits + cond (isCorrected outcome) (outcome - byte "0") 0;
+      noword = counts .noword + one (eqb outcome (byte "n"));
+      check = counts .check + one (eqb outcome (byte "c"));
+      missing = counts .missing + one (eqb outcome (byte "-"));
     }
 
 unfoldable pub countsFrom : Counts → List ℕ → Counts
@@ -81,7 +75,7 @@ tuned channel = record { channel = channel; slots = 0; read = 0; clean = 0; bits
 -- other that was read has 1 to 8 bits.
 unfoldable pub isSound : Counts → Bool
 isSound counts =
-    leb (counts .slots) 999999
+    leb (counts .slots) greatestSlot
     && eqb (counts .slots) (counts .read + counts .noword + counts .check + counts .missing)
     && leb (counts .clean) (counts .read)
     && leb (counts .read - counts .clean) (counts .bits)
@@ -103,16 +97,12 @@ channelUpTo (suc n) line = cond (sameAs line (firstLine (suc n))) (suc n) (chann
 
 -- the line of the next slot, which is at most 999,999
 unfoldable pub isNext : ℕ → List ℕ → Bool
-isNext slots line = ltb slots 999999 && isOutcome (last line) && sameAs line (slotLine (slots + 1) (last line))
-
-abbrev pub judgedFirst : ℕ → Judged
-judgedFirst channel = record { good = not (eqb channel 0); counts = tuned channel }
-
-abbrev pub judgedSlot : Bool → Counts → ℕ → Judged
-judgedSlot good counts outcome = record { good = good; counts = cond good (counted counts outcome) counts }
+isNext slots line = ltb slots greatestSlot && isOutcome (last line) && sameAs line (slotLine (slots + 1) (last line))
 
 -- the first line gives the channel; a bad line leaves the counts as before it
 unfoldable pub judged : Counts → List ℕ → Judged
 judged counts line =
-    cond (eqb (counts .channel) 0) (judgedFirst (channelUpTo 204 line))
-    (judgedSlot (isNext (counts .slots) line) counts (last line))
+    let channel = channelUpTo lastChannel line in
+    let good = isNext (counts .slots) line in
+    cond (eqb (counts .channel) 0) (record { good = not (eqb channel 0); counts = tuned channel })
+    (record { good = good; counts = cond good (counted counts (last line)) counts })

@@ -8,14 +8,15 @@ use lib.Dec.{eqb}
 use Rattle.log.specs.declared.Counts.{Counts}
 use Rattle.log.specs.declared.Reader.{Reader}
 use Rattle.log.specs.Decimal.{decimal}
-use Rattle.log.specs.Log.{lineFeed, slotLine, isOutcome}
-use Rattle.log.specs.Reader.{run, isReader}
+use Rattle.text.specs.Ascii.{lineFeed}
+use Rattle.log.specs.Log.{greatestSlot, slotLine, isOutcome}
+use Rattle.log.specs.Reader.{longestLine, run, isReader}
 
 -- from the byte at i on the reader s does what t does from the byte at j on
 pub record Goes (piece : List ℕ) (s : Reader) (i : ℕ) (t : Reader) (j : ℕ) : Type 0 where
   pub same : run s (drop i piece) ≡ run t (drop j piece)
   pub rule : isReader t ≡ true
-  pub full : length (t .held) ≡ 63
+  pub full : length (t .held) ≡ longestLine
   pub on : i ≤ j
   pub within : j ≤ length piece
 
@@ -30,7 +31,7 @@ pub record DigitsAt (text : List ℕ) (i j n : ℕ) : Type 0 where
 -- the line of the slot after these counts stands from i on, with its line feed at j
 pub record NextSlot (counts : Counts) (piece : List ℕ) (i j : ℕ) : Type 0 where
   pub tuned : eqb (counts .channel) 0 ≡ false
-  pub few : counts .slots < 999999
+  pub few : counts .slots < greatestSlot
   pub outcome : isOutcome (getD piece (j - 1) 0) ≡ true
   pub line : drop i piece ≡ slotLine (counts .slots + 1) (getD piece (j - 1) 0) ++ (lineFeed ∷ drop (j + 1) piece)
   pub on : i < j

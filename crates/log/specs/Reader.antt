@@ -4,6 +4,7 @@ use mathlib.Core.Bool.{Bool, true, false, cond, not, _&&_}
 use mathlib.Core.List.{List, [], _∷_}
 use lib.ListN.{take, drop, set, replicate}
 use lib.Dec.{ltb, leb, eqb}
+use Rattle.text.specs.Ascii.{lineFeed}
 use Rattle.text.specs.Fields.{sameAs}
 use Rattle.answers.specs.Numbers.{Paper, accepted, refused, paper}
 use Rattle.answers.specs.Rules.{unless}
@@ -15,7 +16,7 @@ use Rattle.log.specs.declared.Phase.the-variants.{Open, Refused, Ended}
 use Rattle.log.specs.declared.Reader.{Reader}
 use Rattle.log.specs.declared.Fed.{Fed}
 use Rattle.log.specs.declared.LogRead.{LogRead}
-use Rattle.log.specs.Log.{lineFeed, tuned, isSound, judged}
+use Rattle.log.specs.Log.{tuned, isSound, judged}
 
 -- What is told of a log: the paper's answer, the number of the line that was refused or 0, and the counts before that line or of all.
 pub record ToldLog : Type 0 where
@@ -37,30 +38,30 @@ toldFed r = record { answer = paper (r .answer); line = r .line; reader = r .rea
 
 -- ---- a byte more
 
+-- a line without its line feed; with it a line has at most 64 bytes
+abbrev pub longestLine : ℕ
+longestLine = 63
+
 -- between two lines: nothing is held
 abbrev pub between : Phase → Counts → Reader
-between phase counts = record { phase = phase; counts = counts; held = replicate 63 0; length = 0 }
+between phase counts = record { phase = phase; counts = counts; held = replicate longestLine 0; length = 0 }
 
 abbrev pub freshReader : Reader
 freshReader = between Open (tuned 0)
 
--- the line so far
-abbrev pub lineOf : Reader → List ℕ
-lineOf s = take (s .length) (s .held)
-
 abbrev pub afterLine : Judged → Reader
 afterLine j = between (cond (j .good) Open Refused) (j .counts)
 
--- a byte is held; with its line feed a line has at most 64
+-- a byte is held, where the line has room for it
 abbrev pub holding : Reader → ℕ → Reader
 holding s b =
-    cond (ltb (s .length) 63)
+    cond (ltb (s .length) longestLine)
     (record { phase = Open; counts = s .counts; held = set (s .held) (s .length) b; length = s .length + 1 })
     (between Refused (s .counts))
 
 -- a line is judged at its line feed, or at a 64th byte that is none
 unfoldable pub openStep : Reader → ℕ → Reader
-openStep s b = cond (eqb b lineFeed) (afterLine (judged (s .counts) (lineOf s))) (holding s b)
+openStep s b = cond (eqb b lineFeed) (afterLine (judged (s .counts) (take (s .length) (s .held)))) (holding s b)
 
 abbrev pub isOpen : Phase → Bool
 isOpen Open = true
@@ -87,26 +88,22 @@ badLine s = record { answer = refused 12; line = lineNumber (s .counts); reader 
 abbrev pub fine : Reader → ToldFed
 fine s = record { answer = accepted; line = 0; reader = s }
 
-abbrev pub fedAt : Phase → Reader → ToldFed
-fedAt Open s = fine s
-fedAt Refused s = badLine s
-fedAt Ended s = fine s
+-- a reader that takes a piece has not ended: where it is not open, a line was refused
+abbrev pub afterPiece : Reader → ToldFed
+afterPiece s = unless (isOpen (s .phase)) (badLine s) (fine s)
 
--- the first line is needed, and every line's line feed
-abbrev pub endedAt : Phase → Reader → ToldFed
-endedAt Open s =
-    unless (not (eqb (s .counts .channel) 0)) (badLine (between Refused (s .counts)))
-    (unless (eqb (s .length) 0) (badLine (between Refused (s .counts)))
-    (fine (between Ended (s .counts))))
-endedAt Refused s = badLine s
-endedAt Ended s = fine s
+-- no line was refused, the first is there, and the last has its line feed
+abbrev pub afterEnd : Reader → ToldFed
+afterEnd s =
+    unless (isOpen (s .phase) && not (eqb (s .counts .channel) 0) && eqb (s .length) 0) (badLine (between Refused (s .counts)))
+    (fine (between Ended (s .counts)))
 
 -- the whole log
 abbrev pub wholeOf : ToldFed → ToldLog
 wholeOf t = record { answer = t .answer; line = t .line; counts = t .reader .counts }
 
 unfoldable pub readOf : List ℕ → ToldLog
-readOf log = wholeOf (endedAt (run freshReader log .phase) (run freshReader log))
+readOf log = wholeOf (afterEnd (run freshReader log))
 
 -- ---- a log in pieces
 
@@ -116,10 +113,10 @@ isPlain (b ∷ bs) = not (eqb b lineFeed) && isPlain bs
 
 -- no line feed among the bytes held, and zeros after them
 unfoldable pub isHeld : List ℕ → ℕ → Bool
-isHeld held n = isPlain (take n held) && sameAs (drop n held) (drop n (replicate 63 0))
+isHeld held n = isPlain (take n held) && sameAs (drop n held) (drop n (replicate longestLine 0))
 
 abbrev pub isHolding : Phase → ℕ → Bool
-isHolding Open length = leb length 63
+isHolding Open length = leb length longestLine
 isHolding Refused length = eqb length 0
 isHolding Ended length = false
 
@@ -139,7 +136,7 @@ abbrev pub noReader : Reader → ToldFed
 noReader s = record { answer = refused 11; line = 0; reader = s }
 
 unfoldable pub fedOf : Reader → List ℕ → ToldFed
-fedOf s piece = unless (isReader s) (noReader s) (fedAt (run s piece .phase) (run s piece))
+fedOf s piece = unless (isReader s) (noReader s) (afterPiece (run s piece))
 
 unfoldable pub endOf : Reader → ToldFed
-endOf s = unless (isReader s) (noReader s) (endedAt (s .phase) s)
+endOf s = unless (isReader s) (noReader s) (afterEnd s)

@@ -3,7 +3,8 @@ ghost use mathlib.Core.Path.{_≡_};
 ghost use mathlib.Core.Bool.{true, cond, _&&_};
 ghost use Prim.Native.Nat.{_-_, _≤_, _<_};
 ghost use lib.Dec.{leb};
-ghost use Rattle.log.specs.Log.{isCorrected, isOutcome, counted, tuned, isSound, isCounts};
+ghost use Rattle.text.specs.Ascii.{byte};
+ghost use Rattle.log.specs.Log.{greatestSlot, isCorrected, isOutcome, counted, tuned, isSound, isCounts};
 use crate::Counts;
 use crate::GREATEST_SLOT;
 
@@ -22,12 +23,12 @@ pub(crate) fn is_sound(counts: Counts) -> bool
         return false;
     }
     let dirty = counts.read - counts.clean;
-    let told = counts.read as u64
+    let outcomes = counts.read as u64
         + counts.noword as u64
         + counts.check as u64
         + counts.missing as u64;
     (counts.slots <= GREATEST_SLOT)
-        & (counts.slots as u64 == told)
+        & (counts.slots as u64 == outcomes)
         & (dirty <= counts.bits)
         & (counts.bits as u64 <= 8 * (dirty as u64))
 }
@@ -51,7 +52,7 @@ pub(crate) fn tuned_to(channel: u8) -> Counts
 // The counts with one slot more.
 pub(crate) fn count_one(counts: Counts, outcome: u8) -> Counts
     requires { ⌜ isSound counts ≡ true ⌝ }
-    requires { ⌜ counts .slots < 999999 ⌝ }
+    requires { ⌜ counts .slots < greatestSlot ⌝ }
     ensures { λ r. ⌜ r ≡ counted counts outcome ⌝ }
 {
     Counts {
@@ -80,14 +81,14 @@ fn is_corrected(outcome: u8) -> bool
 }
 
 // Whether this is a digit, up to this one.
-pub(crate) fn is_digit(byte: u8, most: u8) -> bool
-    ensures { λ r. ⌜ r ≡ (leb 48 byte && leb byte most) ⌝ }
+pub(crate) fn is_digit(digit: u8, most: u8) -> bool
+    ensures { λ r. ⌜ r ≡ (leb (byte "0") digit && leb digit most) ⌝ }
 {
-    (b'0' <= byte) & (byte <= most)
+    (b'0' <= digit) & (digit <= most)
 }
 
 fn bits_of(outcome: u8) -> u32
-    ensures { λ r. ⌜ r ≡ cond (isCorrected outcome) (outcome - 48) 0 ⌝ }
+    ensures { λ r. ⌜ r ≡ cond (isCorrected outcome) (outcome - byte "0") 0 ⌝ }
     ensures { λ r. ⌜ r ≤ 8 ⌝ }
 {
     if is_corrected(outcome) {

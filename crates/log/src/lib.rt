@@ -8,7 +8,7 @@ mod slot;
 
 pub use count::is_counts;
 ghost use mathlib.Core.Path.{_≡_};
-ghost use Rattle.log.specs.Reader.{toldLog, toldFed, freshReader, between, badLine, noReader, endedAt, isBefore, isReader, readOf, fedOf, endOf};
+ghost use Rattle.log.specs.Reader.{toldLog, toldFed, freshReader, between, badLine, noReader, afterEnd, isBefore, isReader, readOf, fedOf, endOf};
 ghost use mathlib.Core.Bool.{true};
 use answers::Answer;
 use answers::Refusal;
@@ -35,6 +35,9 @@ pub struct LogRead {
     pub counts: Counts,
 }
 
+// The longest line, without its line feed.
+pub const LONGEST_LINE: usize = 63;
+
 pub enum Phase {
     Open,
     Refused,
@@ -45,7 +48,7 @@ pub enum Phase {
 pub struct Reader {
     pub phase: Phase,
     pub counts: Counts,
-    pub held: [u8; 63],
+    pub held: [u8; LONGEST_LINE],
     pub length: usize,
 }
 
@@ -128,7 +131,7 @@ fn no_reader(reader: Reader) -> Fed
 
 fn after_end(reader: Reader) -> Fed
     requires { ⌜ isReader reader ≡ true ⌝ }
-    ensures { λ r. ⌜ toldFed r ≡ endedAt (reader .phase) reader ⌝ }
+    ensures { λ r. ⌜ toldFed r ≡ afterEnd reader ⌝ }
 {
     let phase = reader.phase;
     let counts = reader.counts;

@@ -4,12 +4,11 @@ ghost use mathlib.Core.Bool.{true};
 ghost use Rattle.log.specs.Decimal.{decimal};
 ghost use Rattle.log.specs.Log.{firstLine, channelUpTo, isNext, isSound, judged};
 ghost use Rattle.text.specs.Fields.{sameAs};
+ghost use Rattle.band.specs.Band.{lastChannel};
 use crate::Counts;
 use crate::GREATEST_SLOT;
 use crate::Judged;
 use crate::count;
-
-const GREATEST_CHANNEL: u8 = 204;
 
 // Whether this is the line that comes after these counts, and the counts with it.
 pub(crate) fn judge(counts: Counts, line: &[u8]) -> Judged
@@ -37,9 +36,9 @@ pub(crate) fn judge(counts: Counts, line: &[u8]) -> Judged
 
 // The channel whose first line this is, or 0. It is asked once a log, so each of them is tried.
 fn channel_of(line: &[u8]) -> u8
-    ensures { λ r. ⌜ r ≡ channelUpTo 204 (now (line .entry)) ⌝ }
+    ensures { λ r. ⌜ r ≡ channelUpTo lastChannel (now (line .entry)) ⌝ }
 {
-    let mut channel = GREATEST_CHANNEL;
+    let mut channel = band::LAST_CHANNEL;
     while channel > 0 {
         if is_first(line, channel) {
             return channel;
@@ -84,7 +83,7 @@ fn spells(text: &[u8], number: u32) -> bool
             return false;
         }
         i -= 1;
-        if text[i] != 48 + (rest % 10) as u8 {
+        if text[i] != b'0' + (rest % 10) as u8 {
             return false;
         }
         rest /= 10;
@@ -92,5 +91,5 @@ fn spells(text: &[u8], number: u32) -> bool
     if i != 1 {
         return false;
     }
-    text[i - 1] == 48 + rest as u8
+    text[i - 1] == b'0' + rest as u8
 }

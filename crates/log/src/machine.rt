@@ -1,21 +1,20 @@
-// The machine over bytes. It holds a line that is cut; a slot's line that lies whole in the piece, where nine bytes or more are left of
-// it, is read where it stands.
+// The machine over bytes. A line is recognised in two ways. Byte by byte it is held, and judged at its line feed (line.rt): so a line
+// that is cut, the first line and every bad one. For speed a good slot's line that lies whole in the piece, where nine bytes or more
+// are left of it, is read forward where it stands (slot.rt). `Goes` ties the two: either leads to the reader that `run` leads to.
 ghost use mathlib.Core.Path.{_≡_};
 ghost use mathlib.Core.Bool.{true, not};
 ghost use Prim.Native.Nat.{_≤_, _<_};
 ghost use lib.ListN.{length};
-ghost use Rattle.log.specs.Reader.{between, openStep, isOpen, isBefore, isReader};
+ghost use Rattle.log.specs.Reader.{longestLine, between, openStep, isOpen, isBefore, isReader};
 ghost use Rattle.log.specs.Machine.{Goes};
 ghost use Rattle.log.specs.Reader.{run as Reader·run};
 use crate::Counts;
+use crate::LONGEST_LINE;
 use crate::Phase;
 use crate::Reader;
 use crate::count;
 use crate::line;
 use crate::slot;
-
-// The longest line, without its line feed.
-const LONGEST_LINE: usize = 63;
 
 // The reader after a part of a piece, and where the rest starts.
 struct Turn {
@@ -29,7 +28,7 @@ pub(crate) fn between_lines(phase: Phase, counts: Counts) -> Reader
     Reader {
         phase,
         counts,
-        held: [0; 63],
+        held: [0; LONGEST_LINE],
         length: 0,
     }
 }
@@ -53,7 +52,7 @@ pub(crate) fn run(reader: Reader, piece: &[u8]) -> Reader
 // Takes whole lines where one starts, or else a byte. After a refusal the rest of the piece plays no part.
 fn take_turn(reader: Reader, piece: &[u8], from: usize) -> Turn
     requires { ⌜ isReader reader ≡ true ⌝ }
-    requires { ⌜ length (reader .held) ≡ 63 ⌝ }
+    requires { ⌜ length (reader .held) ≡ longestLine ⌝ }
     requires { ⌜ from < length (now piece) ⌝ }
     ensures { λ r. ⌜ Goes (now (piece .entry)) reader from (r .reader) (r .at) ⌝ }
     ensures { λ r. ⌜ from < r .at ⌝ }

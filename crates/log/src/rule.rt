@@ -2,8 +2,9 @@
 ghost use mathlib.Core.Path.{_≡_};
 ghost use Prim.Native.Nat.{_≤_};
 ghost use lib.ListN.{length};
-ghost use Rattle.log.specs.Reader.{isHolding, isHeld, isBefore, isReader};
+ghost use Rattle.log.specs.Reader.{longestLine, isHolding, isHeld, isBefore, isReader};
 use crate::Counts;
+use crate::LONGEST_LINE;
 use crate::Phase;
 use crate::Reader;
 use crate::count;
@@ -25,7 +26,7 @@ fn is_holding(phase: Phase, length: usize) -> bool
     ensures { λ r. ⌜ r ≡ isHolding phase length ⌝ }
 {
     match phase {
-        Phase::Open => length <= 63,
+        Phase::Open => length <= LONGEST_LINE,
         Phase::Refused => length == 0,
         Phase::Ended => false,
     }
@@ -33,11 +34,11 @@ fn is_holding(phase: Phase, length: usize) -> bool
 
 // Whether no line feed is among the bytes held, and zeros follow them.
 fn is_held(held: &[u8], count: usize) -> bool
-    requires { ⌜ length (now held) ≡ 63 ⌝ }
-    requires { ⌜ count ≤ 63 ⌝ }
+    requires { ⌜ length (now held) ≡ longestLine ⌝ }
+    requires { ⌜ count ≤ longestLine ⌝ }
     ensures { λ r. ⌜ r ≡ isHeld (now (held .entry)) count ⌝ }
 {
-    let zeros = [0u8; 63];
+    let zeros = [0u8; LONGEST_LINE];
     (bytes::scan::find(held, 0, count, b'\n') == count)
         & text::same(&held[count..], &zeros[count..])
 }

@@ -1,10 +1,12 @@
-// The next slot's line, read forward where it stands in a piece, so that nobody has to look for its end first.
+// The next slot's line, read forward where it stands in a piece, so that nobody has to look for its end first. What is found here is
+// found only to be good (`NextSlot`): any other line is left to be judged in line.rt.
 ghost use mathlib.Core.Path.{_≡_};
 ghost use mathlib.Core.Bool.{true, _&&_};
 ghost use Prim.Native.Nat.{_+_, _≤_, _<_};
 ghost use lib.ListN.{length, getD};
 ghost use lib.Dec.{eqb};
-ghost use Rattle.log.specs.Log.{tab, lineFeed, isOutcome};
+ghost use Rattle.text.specs.Ascii.{byte, tab, lineFeed};
+ghost use Rattle.log.specs.Log.{isOutcome};
 ghost use Rattle.log.specs.Reader.{isBefore};
 ghost use Rattle.log.specs.Machine.{NextSlot, DigitsAt};
 use crate::Counts;
@@ -48,7 +50,7 @@ pub(crate) fn slot_end(counts: Counts, piece: &[u8], from: usize) -> usize
 // The number that the digits here spell, six of them at most.
 fn digits_at(text: &[u8], from: usize) -> Numeral
     requires { ⌜ from + 6 ≤ length (now text) ⌝ }
-    requires { ⌜ (getD (now text) from 0 ≡ 48 → ⊥) ⌝ }
+    requires { ⌜ (getD (now text) from 0 ≡ byte "0" → ⊥) ⌝ }
     ensures { λ r. ⌜ DigitsAt (now (text .entry)) from (r .end) (r .number) ⌝ }
 {
     let mut number = 0;

@@ -1,8 +1,6 @@
 // Reads a log on standard input to its end, and writes its row for the spreadsheet under a line of names; or `refused`, 12 and the
 // number of the first bad line.
-use answers::Answer;
 use libc::STDOUT_FILENO;
-use log::Counts;
 
 fn main() {
     let mut room = io::large_buffer();
@@ -12,33 +10,9 @@ fn main() {
         return;
     }
     let log = intake.log;
-    let answer = log.answer;
-    let counts = log.counts;
-    match answer {
-        Answer::Accepted => write_row(counts),
-        Answer::Refused(refusal) => write_refusal(answers::number(refusal), log.line),
-    }
-}
-
-fn write_row(counts: Counts) {
-    let summarised = summary::summarise(counts);
-    let record = summarised.summary;
-    let mut out = [0u8; 384];
-    let written = summary::export(counts, record, &mut out);
+    let written = summary::export_log(log, &mut room);
     let length = written.length;
-    if length <= 384 {
-        io::write_all(
-            STDOUT_FILENO,
-            b"channel\tkhz\tslots\tread\tclean\tbits\tnoword\tcheck\tmissing\tmean\tmissing share\n",
-        );
-        io::write_all(STDOUT_FILENO, &out[..length]);
+    if !io::write_all(STDOUT_FILENO, &room[..length]) {
+        os::fail(b"sheet: standard output");
     }
-}
-
-fn write_refusal(number: u8, line: u32) {
-    io::write_all(STDOUT_FILENO, b"refused\t");
-    io::print_decimal(STDOUT_FILENO, number as u64);
-    io::write_all(STDOUT_FILENO, b"\t");
-    io::print_decimal(STDOUT_FILENO, line as u64);
-    io::write_all(STDOUT_FILENO, b"\n");
 }

@@ -2,11 +2,11 @@
 use Prim.Native.Nat.{ℕ, suc, zero, _+_, _-_, _*_, _/_, _%_, _^_, _<_, _≤_}
 use mathlib.Core.Path.{_≡_, refl, ap, sym, _∙_, subst}
 use mathlib.Core.Bool.{Bool, true, false}
-use mathlib.Core.List.{List, [], _∷_}
+use mathlib.Core.List.{List, [], _∷_, _++_}
 use native.Mathlib.Nat.{mul-comm, mul-assoc, mul-right-comm, add-mul, mul-sub, zero-mul, suc-mul, pow-suc, mod-lt, div-add-mod', eq-of-mul-eq-mul-right}
 use native.Mathlib.Omega.{arith}
 use lib.Dec.{eqb}
-use lib.ListN.{length}
+use lib.ListN.{length, length-append}
 use lib.Pow.{pow-add, pow-pos}
 use lib.Ieee.{Float, binary64, ofBits, ofFields, odd, toBits}
 use lib.Ieee.Bits.{ofBits-toBits}
@@ -14,13 +14,16 @@ use lib.Ieee.Positive.{num, den, den-pos}
 use borrow.Author.Tests.{eqb-true, eqb-false}
 use Rattle.log.specs.Decimal.{decimalUpTo, decimal}
 use Rattle.log.specs.declared.Counts.{Counts}
+use Rattle.log.specs.Log.{isCounts}
 use Rattle.log.proofs.Lists.{by-cases, cond-with}
 use Rattle.summary.specs.declared.Summary.{Summary}
+use Rattle.summary.specs.Summary.{summaryOf}
 use Rattle.summary.specs.Report.{frequency}
-use Rattle.summary.specs.Export.{decimals, expansion, cell, sheetRow}
-use Rattle.summary.specs.Building.{Measured, Scaled, scaled}
+use Rattle.summary.specs.Export.{decimals, expansion, cell, sheetRow, sheetNames}
+use Rattle.summary.specs.Building.{room, Measured, scaled}
 use Rattle.summary.proofs.Fits.{Short, two, number-short, ended-short}
 use Rattle.summary.proofs.Expansion.{expansion-same, decimals-done, decimals-next}
+use Rattle.summary.proofs.Same.{mean-given, missing-given}
 use Rattle.summary.proofs.Decode.{fieldOf, digitsOf, Decoded, decoded}
 
 -- no bits: zero
@@ -30,8 +33,8 @@ zero-text x m e =
     let z : x ≡ ofBits binary64 0 = sym (ofBits-toBits binary64 x (m .holds)) ∙ ap (ofBits binary64) e in
     sym (ap (λ (y : Float). expansion (num y) (den y)) z)
 
-pub scaled-of : (x : Float) (b : ℕ) → Decoded x b → Scaled (fieldOf b) (digitsOf b)
-scaled-of x b d = record { least = d .least; most = d .most; small = omega arith }
+pub scaled-of : (x : Float) (b : ℕ) → Decoded x b → (1003 ≤ fieldOf b) × (fieldOf b ≤ 1026) × (digitsOf b < 2 ^ 53)
+scaled-of x b d = (d .least, d .most, omega arith)
 
 pub cross : (n e d k l j : ℕ) → n * 2 ^ (l + j) ≡ d * 2 ^ (k + j) * e → d * 2 ^ k * e ≡ n * 2 ^ l
 cross n e d k l j h =
@@ -125,6 +128,10 @@ row-short c s m n =
     (two (ended-short 9 (number-short (c .missing)))
     (two (ended-short 9 (cell-short (s .«mean_exists») (s .mean) m)) (ended-short 10 (cell-short (s .«missing_exists») (s .missing) n)))))))))))
 
--- EVERY ROW FITS THE ROOM OF A TEXT
-pub row-fits : (c : Counts) (s : Summary) → Measured (s .mean) → Measured (s .missing) → length (sheetRow c s) ≤ 384
-row-fits c s m n = omega (arith, row-short c s m n .most)
+-- EVERY ROW FITS THE ROOM OF A TEXT, BELOW ITS NAMES TOO
+pub sheet-fits : (c : Counts) (s : Summary) → s ≡ summaryOf c → isCounts c ≡ true → length (sheetNames ++ sheetRow c s) ≤ room
+unfolding sheetNames
+sheet-fits c s e k = omega (arith, length-append sheetNames (sheetRow c s), row-short c s (mean-given s c e k) (missing-given s c e k) .most)
+
+pub row-fits : (c : Counts) (s : Summary) → s ≡ summaryOf c → isCounts c ≡ true → length (sheetRow c s) ≤ room
+row-fits c s e k = omega (arith, length-append sheetNames (sheetRow c s), sheet-fits c s e k)

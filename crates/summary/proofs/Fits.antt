@@ -1,14 +1,16 @@
--- The report fits the room of a text. Assumes nothing.
+-- The report and a refusal fit the room of a text. Assumes nothing.
 use Prim.Native.Nat.{ℕ, _+_, _*_, _/_, _≤_}
 use mathlib.Core.List.{List, [], _∷_, _++_}
 use native.Mathlib.Omega.{arith}
 use lib.ListN.{length, length-append}
 use lib.Dec.{eqb}
+use Rattle.text.specs.Ascii.{ascii}
 use Rattle.log.specs.declared.Counts.{Counts}
 use Rattle.log.specs.Decimal.{decimal}
 use Rattle.log.proofs.Decimal.{decimal-length}
 use Rattle.log.proofs.Lists.{cond-with}
-use Rattle.summary.specs.Report.{ended, line, frequency, thousandths, readLines, unreadLines, meanLine, reportOf}
+use Rattle.summary.specs.Building.{room}
+use Rattle.summary.specs.Report.{ended, line, frequency, thousandths, reportOf, refusalLine}
 
 -- a text of at most n bytes
 pub record Short (text : List ℕ) (n : ℕ) : Type 0 where
@@ -33,17 +35,24 @@ mean-short bits read =
     cond-with (λ (l : List ℕ). Short l 20) (eqb read 0) (λ e. record { most = omega arith }) (λ e. number-short (1000 * bits / read))
 
 report-short : (c : Counts) → Short (reportOf c) 241
-unfolding reportOf readLines unreadLines meanLine
+unfolding reportOf
 report-short c =
-    two
-    (two (line-short _ (number-short (frequency c)))
+    two (line-short _ (number-short (frequency c)))
     (two (line-short _ (number-short (c .slots)))
     (two (line-short _ (number-short (c .read)))
-    (two (line-short _ (number-short (c .clean))) (line-short _ (number-short (c .bits)))))))
-    (two
+    (two (line-short _ (number-short (c .clean)))
+    (two (line-short _ (number-short (c .bits)))
     (two (line-short _ (number-short (c .noword)))
-    (two (line-short _ (number-short (c .check))) (line-short _ (number-short (c .missing)))))
-    (line-short _ (mean-short (c .bits) (c .read))))
+    (two (line-short _ (number-short (c .check)))
+    (two (line-short _ (number-short (c .missing))) (line-short _ (mean-short (c .bits) (c .read))))))))))
 
-pub report-fits : (c : Counts) → length (reportOf c) ≤ 384
-report-fits c = omega (arith, report-short c .most)
+-- EVERY REPORT HAS AT MOST 241 BYTES
+pub report-fits : (c : Counts) → length (reportOf c) ≤ 241
+report-fits c = report-short c .most
+
+-- AND EVERY REFUSAL AT MOST 50
+pub refusal-fits : (number place : ℕ) → length (refusalLine number place) ≤ 50
+unfolding refusalLine
+refusal-fits number place =
+    let w : Short (ended (ascii "refused") 9) 8 = record { most = omega arith } in
+    two w (two (ended-short 9 (number-short number)) (ended-short 10 (number-short place))) .most

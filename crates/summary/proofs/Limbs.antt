@@ -8,8 +8,8 @@ use lib.ListN.{length, length-take}
 use lib.Pow.{pow-mono}
 use borrow.Author.Tests.{eq-eqb, ne-eqb}
 use Rattle.log.specs.Decimal.{decimal}
-use Rattle.summary.specs.declared.text.Text.{Text}
-use Rattle.summary.specs.Building.{content, Grows, Scaled}
+use Rattle.summary.specs.declared.building.Text.{Text}
+use Rattle.summary.specs.Building.{room, content, Grows}
 use Rattle.summary.specs.Export.{decimals, expansion}
 use Rattle.summary.proofs.Texts.{grows-same, grows-empty}
 use Rattle.summary.proofs.Expansion.{decimals-done, decimals-next}
@@ -29,13 +29,13 @@ pub record Bounds (d f : ℕ) : Type 0 where
   pub high : d / 2 ^ 36 * f ≤ 131071 * f
   pub factor : f ≤ 2 ^ 23
 
-pub bounds : (field d : ℕ) → Scaled field d → Bounds d (1 * 2 ^ (field - 1003) % 2 ^ 64)
-bounds field d s =
-    let k = power-most field (s .most) in
+pub bounds : (field d : ℕ) → field ≤ 1026 → d < 2 ^ 53 → Bounds d (1 * 2 ^ (field - 1003) % 2 ^ 64)
+bounds field d h l =
+    let k = power-most field h in
     record {
       low = mul-le-mul-right _ (omega arith);
-      high = mul-le-mul-right _ (omega (arith, s .small));
-      factor = subst (λ (f : ℕ). f ≤ 2 ^ 23) (sym (factor-is field (s .most))) k;
+      high = mul-le-mul-right _ (omega (arith, l));
+      factor = subst (λ (f : ℕ). f ≤ 2 ^ 23) (sym (factor-is field h)) k;
     }
 
 pub limb-value : (d f b : ℕ) → (d / b * f + d % b * f / b) * b + d % b * f % b ≡ d * f
@@ -87,15 +87,15 @@ decimals-more n a b o h k z =
     ∙ ap (λ (d : ℕ). (48 + d) ∷ decimals (n - 1) (10 * (a * 2 ^ 36 + b) % 2 ^ 72) (2 ^ 72)) (digit-is a b h k)
     ∙ ap (λ (r : ℕ). (48 + (a * 10 + b * 10 / 2 ^ 36) / 2 ^ 36) ∷ decimals (n - 1) r (2 ^ 72)) (left-is a b h k))
 
-pub decimals-end : (t : Text) (n a b : ℕ) → length (content t) ≤ 384 → a + b ≡ 0 → Grows t (decimals n (a * 2 ^ 36 + b) (2 ^ 72)) t
+pub decimals-end : (t : Text) (n a b : ℕ) → length (content t) ≤ room → a + b ≡ 0 → Grows t (decimals n (a * 2 ^ 36 + b) (2 ^ 72)) t
 decimals-end t n a b f z =
     let e : a * 2 ^ 36 + b ≡ 0 = omega arith in
     grows-same (sym (ap (λ (r : ℕ). decimals n r (2 ^ 72)) e ∙ decimals-done n (2 ^ 72))) (grows-empty t f)
 
-pub decimals-out : (t : Text) (n r : ℕ) → length (content t) ≤ 384 → n ≤ 0 → Grows t (decimals n r (2 ^ 72)) t
+pub decimals-out : (t : Text) (n r : ℕ) → length (content t) ≤ room → n ≤ 0 → Grows t (decimals n r (2 ^ 72)) t
 unfolding decimals
 decimals-out t zero r f h = grows-empty t f
 decimals-out t (suc n) r f h = absurd (omega arith)
 
-pub grown-fits : {t u : Text} {a : List ℕ} → Grows t a u → length (content u) ≤ 384
-grown-fits {t} {u} {a} g = omega (arith, ap length (g .text), length-take 384 (content t ++ a))
+pub grown-fits : {t u : Text} {a : List ℕ} → Grows t a u → length (content u) ≤ room
+grown-fits {t} {u} {a} g = omega (arith, ap length (g .text), length-take room (content t ++ a))

@@ -10,7 +10,7 @@ use lib.Ieee.Positive.{num, den}
 use borrow.Author.Tests.{ne-eqb}
 use Rattle.log.specs.declared.Counts.{Counts}
 use Rattle.log.specs.Decimal.{decimal}
-use Rattle.log.specs.Log.{tab, lineFeed}
+use Rattle.text.specs.Ascii.{tab, lineFeed}
 use Rattle.log.proofs.Lists.{cond-with}
 use Rattle.log.proofs.Decimal.{decimal-with}
 use Rattle.summary.specs.declared.Summary.{Summary}

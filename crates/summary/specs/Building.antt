@@ -10,14 +10,18 @@ use lib.Ieee.{Float, binary64, fits}
 use lib.Ieee.Exact.{HasValue}
 use lib.Ieee.Positive.{num, den}
 use lib.ListN.{take}
-use Rattle.summary.specs.declared.text.Text.{Text}
+use Rattle.summary.specs.declared.building.Text.{Text}
+
+-- the bytes that a text has room for
+abbrev pub room : ℕ
+room = 512
 
 abbrev pub content : Text → List ℕ
 content t = take (t .length) (t .bytes)
 
 -- the text t with more bytes, as far as there is room
 pub record Grows (t : Text) (more : List ℕ) (r : Text) : Type 0 where
-  pub text : content r ≡ take 384 (content t ++ more)
+  pub text : content r ≡ take room (content t ++ more)
 
 -- what is known of a number that a cell shows
 pub record Measured (x : Float) : Type 0 where
@@ -29,8 +33,3 @@ pub record Measured (x : Float) : Type 0 where
 -- digits * 2 ^ (field - 1075), in units of 2 ^ -72
 abbrev pub scaled : ℕ → ℕ → ℕ
 scaled field digits = digits * 2 ^ (field - 1003)
-
-pub record Scaled (field digits : ℕ) : Type 0 where
-  pub least : 1003 ≤ field
-  pub most : field ≤ 1026
-  pub small : digits < 2 ^ 53

@@ -3,24 +3,26 @@ use Prim.Native.Nat.{ℕ, zero, suc, _^_}
 use mathlib.Core.Path.{_≡_}
 use mathlib.Core.Bool.{Bool, true, false, not, _&&_, _||_}
 use mathlib.Core.List.{List, [], _∷_, _++_}
-use lib.Dec.{eqb, leb}
+use lib.Dec.{eqb, leb, ltb}
 use lib.ListN.{length, getD, take, drop}
 use lib.Ieee.{Float, binary64, round}
 use lib.Ieee.Exact.{HasValue}
 use Rattle.bytes.specs.Bytes.{indexOf}
+use Rattle.text.specs.Ascii.{byte, tab, lineFeed}
+use Rattle.text.specs.Numbers.{isDecimal}
 use Rattle.log.specs.Decimal.{numberFrom}
-use Rattle.log.specs.Log.{tab, lineFeed, last}
+use Rattle.log.specs.Log.{last}
 use Rattle.summary.specs.declared.Summary.{Summary}
 use Rattle.summary.specs.Report.{ended}
 use Rattle.summary.specs.Export.{cell}
 
--- what stands before the point (46), or all where there is none
+-- what stands before the point, or all where there is none
 unfoldable pub wholeIn : List ℕ → List ℕ
-wholeIn text = take (indexOf 46 text) text
+wholeIn text = take (indexOf (byte ".") text) text
 
 -- what stands after it
 unfoldable pub decimalsIn : List ℕ → List ℕ
-decimalsIn text = drop (suc (indexOf 46 text)) text
+decimalsIn text = drop (suc (indexOf (byte ".") text)) text
 
 -- A text denotes `digitsIn` / 10 ^ `placesIn`: the number that all its digits spell, and how many of them stand after the point
 unfoldable pub digitsIn : List ℕ → ℕ
@@ -29,18 +31,18 @@ digitsIn text = numberFrom 0 (wholeIn text ++ decimalsIn text)
 unfoldable pub placesIn : List ℕ → ℕ
 placesIn text = length (decimalsIn text)
 
--- `0` (48) to `9` (57), and nothing else
+-- `0` to `9`, and nothing else
 unfoldable pub isDigits : List ℕ → Bool
 isDigits [] = true
-isDigits (b ∷ digits) = leb 48 b && leb b 57 && isDigits digits
+isDigits (b ∷ digits) = isDecimal b && isDigits digits
 
 -- one digit, or several of which the first is not `0`
 unfoldable pub isWhole : List ℕ → Bool
-isWhole digits = isDigits digits && (eqb (length digits) 1 || leb 49 (getD digits 0 0))
+isWhole digits = isDigits digits && (eqb (length digits) 1 || ltb (byte "0") (getD digits 0 0))
 
 -- one digit or more, of which the last is not `0`
 unfoldable pub isFraction : List ℕ → Bool
-isFraction digits = isDigits digits && leb 49 (last digits)
+isFraction digits = isDigits digits && ltb (byte "0") (last digits)
 
 -- a whole number alone, or one with a point and decimals after it; no sign and no exponent
 unfoldable pub isDecimalText : List ℕ → Bool

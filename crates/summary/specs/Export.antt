@@ -5,22 +5,25 @@ use mathlib.Core.List.{List, [], _∷_, _++_}
 use lib.Dec.{eqb}
 use lib.Ieee.{Float, binary64, toBits}
 use lib.Ieee.Positive.{num, den}
+use Rattle.answers.specs.Numbers.{paper}
 use Rattle.answers.specs.Rules.{unless}
+use Rattle.text.specs.Ascii.{ascii, byte, tab, lineFeed}
 use Rattle.log.specs.declared.Counts.{Counts}
+use Rattle.log.specs.declared.LogRead.{LogRead}
 use Rattle.log.specs.Decimal.{decimal}
-use Rattle.log.specs.Log.{tab, lineFeed, isCounts}
+use Rattle.log.specs.Log.{isCounts}
 use Rattle.summary.specs.declared.Summary.{Summary}
 use Rattle.summary.specs.Summary.{summaryOf}
-use Rattle.summary.specs.Report.{ended, frequency, ToldText, notDelivered, delivered}
+use Rattle.summary.specs.Report.{ended, frequency, ToldText, notDelivered, delivered, orRefusal}
 
 -- the decimals of r / d by long division, until nothing is left of r, and at most so many
 unfoldable pub decimals : ℕ → ℕ → ℕ → List ℕ
 decimals zero r d = []
-decimals (suc more) r d = cond (eqb r 0) [] ((48 + 10 * r / d) ∷ decimals more (10 * r % d) d)
+decimals (suc more) r d = cond (eqb r 0) [] ((byte "0" + 10 * r / d) ∷ decimals more (10 * r % d) d)
 
 -- a / c in full: no exponent, no zeros at the end, and no point where there is no fraction; a binary64 has at most 1,074 decimals
 unfoldable pub expansion : ℕ → ℕ → List ℕ
-expansion a c = decimal (a / c) ++ cond (eqb (a % c) 0) [] (46 ∷ decimals 1074 (a % c) c)
+expansion a c = decimal (a / c) ++ cond (eqb (a % c) 0) [] (byte "." ∷ decimals 1074 (a % c) c)
 
 -- what exists is written exactly, as the fraction `num` / `den` that it is; what does not exist is an empty cell
 unfoldable pub cell : Bool → Float → List ℕ
@@ -58,3 +61,14 @@ exportedOf counts summary out =
     unless (isCounts counts) (notDelivered 11 out)
     (unless (isSummary summary (summaryOf counts)) (notDelivered 11 out)
     (delivered (sheetRow counts summary) out))
+
+-- the names of the row's fields, in a line of their own
+unfoldable pub sheetNames : List ℕ
+sheetNames = ascii "channel\tkhz\tslots\tread\tclean\tbits\tnoword\tcheck\tmissing\tmean\tmissing share\n"
+
+-- the names and the row, with the summary that the counts have
+unfoldable pub sheetOf : Counts → List ℕ → ToldText
+sheetOf counts out = unless (isCounts counts) (notDelivered 11 out) (delivered (sheetNames ++ sheetRow counts (summaryOf counts)) out)
+
+unfoldable pub exportLogOf : LogRead → List ℕ → ToldText
+exportLogOf log out = orRefusal (paper (log .answer)) (log .line) out (sheetOf (log .counts) out)

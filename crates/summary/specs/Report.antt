@@ -7,9 +7,11 @@ use lib.Dec.{leb, eqb}
 use Rattle.answers.specs.Numbers.{Paper, accepted, refused, paper}
 use Rattle.answers.specs.Rules.{unless}
 use Rattle.band.specs.Band.{kilohertzOf}
+use Rattle.text.specs.Ascii.{ascii, tab, lineFeed}
 use Rattle.log.specs.declared.Counts.{Counts}
+use Rattle.log.specs.declared.LogRead.{LogRead}
 use Rattle.log.specs.Decimal.{decimal}
-use Rattle.log.specs.Log.{tab, lineFeed, isCounts}
+use Rattle.log.specs.Log.{isCounts}
 use Rattle.summary.specs.declared.Written.{Written}
 
 -- a text and the mark that ends it
@@ -26,31 +28,20 @@ frequency counts = kilohertzOf (record { 0 = counts .channel }) .number
 
 -- 1000 x bits / read rounded down, or `-` where read is 0
 unfoldable pub thousandths : ℕ → ℕ → List ℕ
-thousandths bits read = cond (eqb read 0) (45 ∷ []) (decimal (1000 * bits / read))
+thousandths bits read = cond (eqb read 0) (ascii "-") (decimal (1000 * bits / read))
 
--- `khz`, `slots`, `read`, `clean`, `bits`
-unfoldable pub readLines : Counts → List ℕ
-readLines counts =
-    line (107 ∷ 104 ∷ 122 ∷ []) (decimal (frequency counts))
-    ++ (line (115 ∷ 108 ∷ 111 ∷ 116 ∷ 115 ∷ []) (decimal (counts .slots))
-    ++ (line (114 ∷ 101 ∷ 97 ∷ 100 ∷ []) (decimal (counts .read))
-    ++ (line (99 ∷ 108 ∷ 101 ∷ 97 ∷ 110 ∷ []) (decimal (counts .clean))
-    ++ line (98 ∷ 105 ∷ 116 ∷ 115 ∷ []) (decimal (counts .bits)))))
-
--- `noword`, `check`, `missing`
-unfoldable pub unreadLines : Counts → List ℕ
-unreadLines counts =
-    line (110 ∷ 111 ∷ 119 ∷ 111 ∷ 114 ∷ 100 ∷ []) (decimal (counts .noword))
-    ++ (line (99 ∷ 104 ∷ 101 ∷ 99 ∷ 107 ∷ []) (decimal (counts .check))
-    ++ line (109 ∷ 105 ∷ 115 ∷ 115 ∷ 105 ∷ 110 ∷ 103 ∷ []) (decimal (counts .missing)))
-
--- `mean`
-unfoldable pub meanLine : Counts → List ℕ
-meanLine counts = line (109 ∷ 101 ∷ 97 ∷ 110 ∷ []) (thousandths (counts .bits) (counts .read))
-
--- the nine lines
+-- the whole report, in this order
 unfoldable pub reportOf : Counts → List ℕ
-reportOf counts = readLines counts ++ (unreadLines counts ++ meanLine counts)
+reportOf counts =
+    line (ascii "khz") (decimal (frequency counts))
+    ++ (line (ascii "slots") (decimal (counts .slots))
+    ++ (line (ascii "read") (decimal (counts .read))
+    ++ (line (ascii "clean") (decimal (counts .clean))
+    ++ (line (ascii "bits") (decimal (counts .bits))
+    ++ (line (ascii "noword") (decimal (counts .noword))
+    ++ (line (ascii "check") (decimal (counts .check))
+    ++ (line (ascii "missing") (decimal (counts .missing))
+    ++ line (ascii "mean") (thousandths (counts .bits) (counts .read)))))))))
 
 -- What is told of a text that was asked for: the paper's answer, the text's length, and the lent output as it is left.
 pub record ToldText : Type 0 where
@@ -74,3 +65,15 @@ delivered text out =
 -- 11 for counts that no accepted log gives
 unfoldable pub reportedOf : Counts → List ℕ → ToldText
 reportedOf counts out = unless (isCounts counts) (notDelivered 11 out) (delivered (reportOf counts) out)
+
+-- `refused`, 12 and the line number, parted by tabs
+unfoldable pub refusalLine : ℕ → ℕ → List ℕ
+refusalLine number place = ended (ascii "refused") tab ++ (ended (decimal number) tab ++ ended (decimal place) lineFeed)
+
+-- of a log that was refused only that is written
+abbrev pub orRefusal : Paper → ℕ → List ℕ → ToldText → ToldText
+orRefusal accepted place out text = text
+orRefusal (refused number) place out text = delivered (refusalLine number place) out
+
+unfoldable pub reportLogOf : LogRead → List ℕ → ToldText
+reportLogOf log out = orRefusal (paper (log .answer)) (log .line) out (reportedOf (log .counts) out)

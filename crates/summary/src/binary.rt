@@ -1,12 +1,12 @@
 // A binary64 in decimal, exactly. Those that a row shows are 0 or lie from 2^-20 to 8, so they are whole multiples of 2^-72; such a
 // multiple is held in two numbers of 36 bits, for it does not fit one of 64.
 ghost use mathlib.Core.Path.{_≡_};
-ghost use Prim.Native.Nat.{_+_, _*_, _^_, _<_};
+ghost use Prim.Native.Nat.{_+_, _*_, _^_, _<_, _≤_};
 ghost use lib.Ieee.Positive.{num, den};
 ghost use Rattle.summary.specs.Export.{sameBits, decimals, expansion, cell};
-ghost use Rattle.summary.specs.Building.{Grows, Measured, Scaled, scaled};
-use crate::text;
-use crate::text::Text;
+ghost use Rattle.summary.specs.Building.{Grows, Measured, scaled};
+use crate::building;
+use crate::building::Text;
 
 // 2^36, 2^52 and 2^63.
 const LIMB: u64 = 68719476736;
@@ -43,7 +43,7 @@ pub(crate) fn put_cell(text: Text, exists: bool, number: f64) -> Text
     if exists {
         return put_exactly(text, number);
     }
-    text::put(text, b"")
+    building::put(text, b"")
 }
 
 fn put_exactly(text: Text, number: f64) -> Text
@@ -52,14 +52,14 @@ fn put_exactly(text: Text, number: f64) -> Text
 {
     let bits = f64::to_bits(number);
     if bits == 0 {
-        return text::put_byte(text, b'0');
+        return building::put_byte(text, b'0');
     }
     put_fixed(text, scale(bits % SIGN / HIDDEN, HIDDEN + bits % HIDDEN))
 }
 
 // The number digits * 2^(field - 1075).
 fn scale(field: u64, digits: u64) -> Fixed
-    requires { ⌜ Scaled field digits ⌝ }
+    requires { ⌜ (1003 ≤ field) × (field ≤ 1026) × (digits < 2 ^ 53) ⌝ }
     ensures { λ r. ⌜ (r .high * 2 ^ 36 + r .low ≡ scaled field digits) × (r .low < 2 ^ 36) × (r .high < 2 ^ 40) ⌝ }
 {
     let factor = 1u64 << (field - 1003);
@@ -76,11 +76,11 @@ fn put_fixed(text: Text, number: Fixed) -> Text
 {
     let high = number.high % LIMB;
     let low = number.low;
-    let whole = text::put_number(text, number.high / LIMB);
+    let whole = building::put_number(text, number.high / LIMB);
     if high + low == 0 {
         return whole;
     }
-    put_decimals(text::put_byte(whole, b'.'), high, low)
+    put_decimals(building::put_byte(whole, b'.'), high, low)
 }
 
 // The decimals of a fraction by long division, until nothing is left.
@@ -98,7 +98,7 @@ fn put_decimals(text: Text, high: u64, low: u64) -> Text
         }
         let ten = below * 10;
         let carried = above * 10 + ten / LIMB;
-        so_far = text::put_byte(so_far, 48 + (carried / LIMB) as u8);
+        so_far = building::put_byte(so_far, b'0' + (carried / LIMB) as u8);
         above = carried % LIMB;
         below = ten % LIMB;
         more -= 1;

@@ -5,14 +5,17 @@ use mathlib.Core.Bool.{Bool, true, cond, not, _&&_}
 use mathlib.Core.List.{List, [], _∷_, _++_}
 use lib.ListN.{length, getD, drop}
 use lib.Dec.{eqb, leb, ltb}
+use Rattle.text.specs.Ascii.{byte}
+use Rattle.text.specs.Numbers.{isDecimal}
 use Rattle.text.specs.declared.hexadecimal.Bytes.{Bytes}
 use Rattle.text.specs.declared.hexadecimal.Bytes.the-variants.{Are, Unreadable}
 
 -- the value of a digit, and 16 for any other byte
 abbrev pub digitOf : ℕ → ℕ
 digitOf b =
-    cond (leb 48 b && leb b 57) (b - 48)
-    (cond (leb 97 b && leb b 102) (b - 97 + 10) (cond (leb 65 b && leb b 70) (b - 65 + 10) 16))
+    cond (isDecimal b) (b - byte "0")
+    (cond (leb (byte "a") b && leb b (byte "f")) (b - byte "a" + 10)
+    (cond (leb (byte "A") b && leb b (byte "F")) (b - byte "A" + 10) 16))
 
 -- every byte is a digit
 abbrev pub hexadecimal : List ℕ → Bool
@@ -28,7 +31,7 @@ decoded (a ∷ b ∷ digits) = (digitOf a * 16 + digitOf b) ∷ decoded digits
 -- a field that is `.`, or an even number of digits, not none, whose bytes there is room for
 abbrev pub readBytesOf : List ℕ → ℕ → Bytes
 readBytesOf digits room =
-    cond (eqb (length digits) 1) (cond (eqb (getD digits 0 0) 46) (Are 0) Unreadable)
+    cond (eqb (length digits) 1) (cond (eqb (getD digits 0 0) (byte ".")) (Are 0) Unreadable)
     (cond (eqb (length digits) 0) Unreadable
     (cond (not (eqb (length digits % 2) 0)) Unreadable
     (cond (ltb room (length digits / 2)) Unreadable
@@ -45,4 +48,4 @@ countOf Unreadable = 0
 
 -- the digit of a number below 16
 abbrev pub hexDigit : ℕ → ℕ
-hexDigit number = cond (ltb number 10) (48 + number) (97 + number - 10)
+hexDigit number = cond (ltb number 10) (byte "0" + number) (byte "a" + number - 10)

@@ -1,3 +1,4 @@
+pub mod Ascii
 pub mod Fields
 pub mod Numbers
 pub mod Hexadecimal

@@ -4,18 +4,19 @@ use mathlib.Core.Bool.{Bool, cond, _&&_}
 use mathlib.Core.List.{List, [], _∷_}
 use lib.ListN.{length}
 use lib.Dec.{eqb, leb}
+use Rattle.text.specs.Ascii.{byte}
 use Rattle.text.specs.declared.numbers.Number.{Number}
 use Rattle.text.specs.declared.numbers.Number.the-variants.{Is, Unreadable}
 
 abbrev pub isDecimal : ℕ → Bool
-isDecimal b = leb 48 b && leb b 57
+isDecimal b = leb (byte "0") b && leb b (byte "9")
 
 -- digits read on from a value; a value over the most is no number
 abbrev pub digitsFrom : ℕ → ℕ → List ℕ → Number
 digitsFrom most value [] = Is value
 digitsFrom most value (b ∷ digits) =
     cond (isDecimal b)
-    (cond (leb (value * 10 + (b - 48)) most) (digitsFrom most (value * 10 + (b - 48)) digits) Unreadable)
+    (cond (leb (value * 10 + (b - byte "0")) most) (digitsFrom most (value * 10 + (b - byte "0")) digits) Unreadable)
     Unreadable
 
 -- one or more digits

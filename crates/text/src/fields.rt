@@ -2,8 +2,6 @@
 ghost use mathlib.Core.Path.{_≡_};
 ghost use Rattle.text.specs.Fields.{sameAs, tabs, fieldOf};
 
-const TAB: u8 = 9;
-
 // Whether a and b hold the same bytes.
 pub fn same(a: &[u8], b: &[u8]) -> bool
     ensures { λ r. ⌜ r ≡ sameAs (now (a .entry)) (now (b .entry)) ⌝ }
@@ -28,7 +26,7 @@ pub fn arguments(line: &[u8]) -> usize
     let mut count = 0;
     let mut i = 0;
     while i < line.len() {
-        if line[i] == TAB {
+        if line[i] == b'\t' {
             count += 1;
         }
         i += 1;
@@ -43,13 +41,13 @@ pub fn field(line: &[u8], index: usize) -> &[u8]
     let mut rest = line;
     let mut left = index;
     while 0 < left {
-        let skipped = bytes::scan::find(rest, 0, rest.len(), TAB);
+        let skipped = bytes::scan::find(rest, 0, rest.len(), b'\t');
         if rest.len() <= skipped {
             return &rest[skipped..];
         }
         rest = &rest[skipped + 1..];
         left -= 1;
     }
-    let count = bytes::scan::find(rest, 0, rest.len(), TAB);
+    let count = bytes::scan::find(rest, 0, rest.len(), b'\t');
     &rest[..count]
 }

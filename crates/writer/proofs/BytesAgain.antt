@@ -7,13 +7,16 @@ use native.Mathlib.Omega.{arith}
 use borrow.Author.Tests.{eqb-true, lt-leb}
 use lib.Dec.{eqb, leb}
 use lib.ListN.{length, getD, take, drop, replicate, length-drop, take-append-drop}
+use lib.Pow.{areBytes}
 use lib.Seq.{take-add, length-take-le, getD-take}
+use Rattle.answers.proofs.Bytes.{bytes-parts}
 use Rattle.answers.proofs.Rules.{unless-passed}
 use Rattle.gf2.specs.Poly.{bit}
-use Rattle.header.specs.Fields.{Bytes, Fit, field, fields, header, bytesOf, headerFrom}
-use Rattle.header.proofs.Fields.{packed-lt, fields-fit, header-again, number-bytes, total-bytes}
+use Rattle.header.specs.Header.{Fit, field, fields, header, bytesOf, headerFrom}
+use Rattle.header.proofs.Fields.{fields-fit, number-bytes, number-lt}
+use Rattle.header.proofs.Bits.{bit-of, header-again}
 use Rattle.channel.specs.Answers.{Outcome, message, refused}
-use Rattle.channel.specs.Layer4.{whereExt, layer4, sizeOf, endOf, blocksFilled, dataOf, opened, extOf, openedAt, isPadding, rightForm, tested, messageOf}
+use Rattle.channel.specs.Layer4.{whereExt, layer4, sizeOf, messageSize, blocksFilled, dataOf, opened, extOf, openedAt, isPadding, rightForm, tested, messageOf}
 use Rattle.channel.specs.declared.Header.{Header}
 use Rattle.channel.specs.declared.layer4.Opened.{Opened}
 use Rattle.channel.proofs.Headers.{fields-small}
@@ -33,13 +36,13 @@ record Passed (o : Opened) (bytes : List ℕ) (h : Header) : Type 0 where
   rfa : o .rfa ≡ 0
   form : rightForm (o .header .ext) (o .header .number) ≡ true
   count : blocksFilled (o .header) * 20 ≡ length bytes
-  padding : isPadding (drop (endOf (o .header)) bytes) ≡ true
+  padding : isPadding (drop (messageSize (o .header)) bytes) ≡ true
   is : o .header ≡ h
 
 all-passed : (o : Opened) (bytes : List ℕ) (h : Header) → tested o bytes ≡ message h → Passed o bytes h
 unfolding tested
 all-passed o bytes h e =
-    let end = endOf (o .header) in
+    let end = messageSize (o .header) in
     let Is : Outcome → Type 0 = λ r. r ≡ message h in
     let a = unless-passed Is (not (o .caf)) _ _ (no-message h 6) e in
     let b = unless-passed Is (o .checked) _ _ (no-message h 4) (a .1) in
@@ -60,11 +63,6 @@ all-passed o bytes h e =
     }
 
 -- ---- the header
-
-pub bit-of : (x : ℕ) → x < 2 → bit (eqb x 1) ≡ x
-bit-of zero h = refl
-bit-of (suc zero) h = refl
-bit-of (suc (suc n)) h = absurd (omega arith)
 
 none-of : (x : ℕ) → x < 2 → not (eqb x 1) ≡ true → x ≡ 0
 none-of zero h e = refl
@@ -117,20 +115,6 @@ module _ (ext : Bool) (h : ℕ) (bytes : List ℕ) (small : h < 2 ^ (8 * sizeOf 
 
 -- ---- header, data and padding
 
-pub bytes-take : (n : ℕ) (bytes : List ℕ) → Bytes bytes → Bytes (take n bytes)
-bytes-take zero bytes f = tt
-bytes-take (suc n) [] f = tt
-bytes-take (suc n) (b ∷ bytes) f = (f .0, bytes-take n bytes (f .1))
-
-pub bytes-append : (xs ys : List ℕ) → Bytes xs → Bytes ys → Bytes (xs ++ ys)
-bytes-append [] ys f g = g
-bytes-append (x ∷ xs) ys f g = (f .0, bytes-append xs ys (f .1) g)
-
-pub bytes-drop : (n : ℕ) (xs : List ℕ) → Bytes xs → Bytes (drop n xs)
-bytes-drop zero xs f = f
-bytes-drop (suc n) [] f = tt
-bytes-drop (suc n) (x ∷ xs) f = bytes-drop n xs (f .1)
-
 zeros-all : (s : List ℕ) → isPadding s ≡ true → s ≡ replicate (length s) 0
 zeros-all [] e = refl
 zeros-all (b ∷ s) e =
@@ -142,16 +126,16 @@ pub record Again (bytes : List ℕ) (m : Header) : Type 0 where
   pub row : messageBytes m (dataOf m bytes) ≡ bytes
   pub blocks : blocksFilled m * 20 ≡ length bytes
 
-row-again : (m : Header) (s : List ℕ) → headerBytes m ≡ take (m .size) s → blocksFilled m * 20 ≡ length s → isPadding (drop (endOf m) s) ≡ true → messageBytes m (dataOf m s) ≡ s
+row-again : (m : Header) (s : List ℕ) → headerBytes m ≡ take (m .size) s → blocksFilled m * 20 ≡ length s → isPadding (drop (messageSize m) s) ≡ true → messageBytes m (dataOf m s) ≡ s
 unfolding messageBytes
 row-again m s h count z =
-    let n = endOf m in
+    let n = messageSize m in
     let front : headerBytes m ++ dataOf m s ≡ take n s = ap (λ (x : List ℕ). x ++ dataOf m s) h ∙ sym (take-add (m .size) (m .length) s) in
     let left : length (drop n s) ≡ blocksFilled m * 20 - n = length-drop n s ∙ ap (λ (k : ℕ). k - n) (sym count) in
     let back : drop n s ≡ replicate (blocksFilled m * 20 - n) 0 = zeros-all (drop n s) z ∙ ap (λ (k : ℕ). replicate k 0) left in
     ap₂ (λ (x y : List ℕ). x ++ y) front (sym back) ∙ take-append-drop n s
 
-module _ (bytes : List ℕ) (fit : Bytes bytes) (long : 5 ≤ length bytes) where
+module _ (bytes : List ℕ) (fit : areBytes bytes ≡ true) (long : 5 ≤ length bytes) where
   size : ℕ
   size = sizeOf (extOf bytes)
 
@@ -164,14 +148,11 @@ module _ (bytes : List ℕ) (fit : Bytes bytes) (long : 5 ≤ length bytes) wher
 
   whole-small : whole < 2 ^ (8 * size)
   unfolding size whole
-  whole-small =
-      let front = take size bytes in
-      subst (λ (k : ℕ). whole < 2 ^ k) (total-bytes (length front) ∙ ap (λ (k : ℕ). 8 * k) taken-length)
-      (packed-lt (replicate (length front) 8) front (bytes-take size bytes fit))
+  whole-small = subst (λ (k : ℕ). whole < 2 ^ (8 * k)) taken-length (number-lt (take size bytes) (bytes-parts size bytes fit .0))
 
   whole-bytes : bytesOf size whole ≡ take size bytes
   unfolding size whole
-  whole-bytes = ap (λ (k : ℕ). bytesOf k whole) (sym taken-length) ∙ number-bytes (take size bytes) (bytes-take size bytes fit)
+  whole-bytes = ap (λ (k : ℕ). bytesOf k whole) (sym taken-length) ∙ number-bytes (take size bytes) (bytes-parts size bytes fit .0)
 
   ext-again : bit (extOf bytes) ≡ field (layer4 (extOf bytes)) 4 whole
   unfolding size whole

@@ -5,12 +5,13 @@
 use Prim.Native.Nat.{ℕ, zero, suc, _+_, _-_, _%_, _≤_}
 use mathlib.Core.Path.{_≡_}
 use mathlib.Core.Bool.{Bool, true}
-use mathlib.Core.List.{List, [], _∷_, _++_}
+use mathlib.Core.List.{List, [], _∷_, _++_, map}
 use lib.ListN.{length, take, drop, replicate}
 use Rattle.answers.specs.Numbers as answers
+use Rattle.answers.specs.Rules.{Run, stateLeft}
 use Rattle.gf2.specs.Poly.{bit}
-use Rattle.header.specs.Fields.{field, Bytes}
-use Rattle.channel.specs.Answers.{Outcome, taken, message, refused, outcome, toldStep}
+use Rattle.header.specs.Header.{field}
+use Rattle.channel.specs.Answers.{Outcome, taken, message, refused, ChannelAfter, toldStep}
 use Rattle.channel.specs.Layer3.{layer3, headerOf}
 use Rattle.channel.specs.Layer4.{blocksFilled, dataOf}
 use Rattle.channel.specs.State.{keepsRule, stepOf}
@@ -20,10 +21,10 @@ use Rattle.channel.specs.declared.Header.{Header}
 use Rattle.channel.specs.declared.Phase.the-variants.{Ready}
 use Rattle.channel.specs.declared.Stepped.{Stepped}
 use Rattle.group.specs.Answers as group
-use Rattle.group.specs.Leading.{Message, JoinResult, joinAnswers, groupLeft, bufferLeft}
+use Rattle.group.specs.Answers.{GroupAfter}
+use Rattle.group.specs.Leading.{Message, GroupAndBuffer, leftBy}
 use Rattle.group.specs.State.{idle}
-use Rattle.group.specs.declared.Group.{Group}
-use Rattle.writer.specs.Message.{headerFor, messageBytes, messageInWidths}
+use Rattle.writer.specs.Message.{headerFor, messageBytes, messageInWidths, flat}
 use Rattle.writer.specs.Group.{messagesFor, messagesOf}
 use Rattle.writer.specs.declared.Series.{Series}
 use Rattle.writer.specs.declared.Wrote.{Wrote}
@@ -37,19 +38,14 @@ pieces (suc k) output = take 22 output ∷ pieces k (drop 22 output)
 
 -- what `Channel::step` gives for block after block, each time from the channel that it left
 abbrev pub Steps : Channel → List (List ℕ) → List Stepped → Type 0
-Steps c [] [] = Unit
-Steps c [] (r ∷ steps) = ⊥
-Steps c (b ∷ blocks) [] = ⊥
-Steps c (b ∷ blocks) (r ∷ steps) = (toldStep r ≡ stepOf c b) × Steps (r .channel) blocks steps
+Steps = Run (λ c b r. toldStep r ≡ stepOf c b) (λ r. r .channel)
 
--- every answer, and the channel at the end
-abbrev pub answersIn : List Stepped → List Outcome
-answersIn [] = []
-answersIn (r ∷ steps) = outcome (r .answer) ∷ answersIn steps
+-- every answer that is told, and the channel at the end
+abbrev pub answersIn : List ChannelAfter → List Outcome
+answersIn told = map (λ t. t .answer) told
 
-abbrev pub channelLeft : Channel → List Stepped → Channel
-channelLeft c [] = c
-channelLeft c (r ∷ steps) = channelLeft (r .channel) steps
+abbrev pub channelLeft : Channel → List ChannelAfter → Channel
+channelLeft = stateLeft (λ t. t .channel)
 
 -- a channel that can take a message: ready, its rule kept, and its 260 bytes there
 pub record Listens (c : Channel) : Type 0 where
@@ -63,21 +59,16 @@ pub record Listens (c : Channel) : Type 0 where
 abbrev pub heard : Header → List Outcome
 heard m = replicate (blocksFilled m - 1) taken ++ (message m ∷ [])
 
--- of a message written, the blocks of the output from a channel that listens and expects their first SC: "taken" .. "message", and the channel
--- listens again, expects the SC after the last block's, and holds the data from byte h on
-pub record ReadBack (m : Fields) (s : List ℕ) (w : Wrote) (c : Channel) (steps : List Stepped) : Type 0 where
-  pub blocks : w .blocks ≡ blocksFilled (headerFor m (length s))
-  pub answers : answersIn steps ≡ heard (headerFor m (length s))
-  pub listens : Listens (channelLeft c steps)
-  pub expected : channelLeft c steps .expected ≡ (c .expected + w .blocks) % 16
-  pub stands : dataOf (headerFor m (length s)) (channelLeft c steps .bytes) ≡ s
+-- of a message written in so many blocks, what is told of them by a channel that listens and expects their first SC: "taken" .. "message", and the
+-- channel listens again, expects the SC after the last block's, and holds the data from byte h on
+pub record ReadBack (m : Fields) (s : List ℕ) (blocks : ℕ) (c : Channel) (told : List ChannelAfter) : Type 0 where
+  pub count : blocks ≡ blocksFilled (headerFor m (length s))
+  pub answers : answersIn told ≡ heard (headerFor m (length s))
+  pub listens : Listens (channelLeft c told)
+  pub expected : channelLeft c told .expected ≡ (c .expected + blocks) % 16
+  pub stands : dataOf (headerFor m (length s)) (channelLeft c told .bytes) ≡ s
 
 -- ---- an accepted message, written again
-
--- blocks of bytes
-abbrev pub OfBytes : List (List ℕ) → Type 0
-OfBytes [] = Unit
-OfBytes (b ∷ blocks) = Bytes b × OfBytes blocks
 
 -- all with this DI
 abbrev pub AllWith : Bool → List (List ℕ) → Type 0
@@ -86,8 +77,7 @@ AllWith di (b ∷ blocks) = (field layer3 1 (headerOf b) ≡ bit di) × AllWith 
 
 -- the twenty data bytes of each block, one after the other
 abbrev pub twenties : List (List ℕ) → List ℕ
-twenties [] = []
-twenties (b ∷ blocks) = drop 2 b ++ twenties blocks
+twenties blocks = flat (map (drop 2) blocks)
 
 -- the fields of a header that the writer takes
 abbrev pub fieldsOf : Header → Fields
@@ -110,31 +100,26 @@ pub record WrittenAgain (blocks : List (List ℕ)) (w : Wrote) (output : List �
 -- ---- a group reads back
 
 -- the messages that a channel gave, each with its data as the channel then held it
-abbrev pub messageIn : Header → Channel → Message
-messageIn h c = record { fields = fieldsOf h; bytes = dataOf h (c .bytes) }
+abbrev pub messageIn : Outcome → Channel → List Message
+messageIn taken c = []
+messageIn (message h) c = record { fields = fieldsOf h; bytes = dataOf h (c .bytes) } ∷ []
+messageIn (refused n) c = []
 
-abbrev pub handOn : Outcome → Channel → List Message → List Message
-handOn taken c messages = messages
-handOn (message h) c messages = messageIn h c ∷ messages
-handOn (refused n) c messages = messages
+abbrev pub messagesIn : List ChannelAfter → List Message
+messagesIn told = flat (map (λ t. messageIn (t .answer) (t .channel)) told)
 
-abbrev pub messagesIn : List Stepped → List Message
-messagesIn [] = []
-messagesIn (r ∷ steps) = handOn (outcome (r .answer)) (r .channel) (messagesIn steps)
+-- of messages written in so many blocks, what is told of them by a channel: "taken" .. "message" for each, with its fields and its data, and the
+-- channel listens again and expects the SC after the last block's
+pub record AllRead (messages : List Message) (blocks : ℕ) (c : Channel) (told : List ChannelAfter) : Type 0 where
+  pub answers : answersIn told ≡ flat (map (λ m. heard (headerFor (m .fields) (length (m .bytes)))) messages)
+  pub given : messagesIn told ≡ messages
+  pub listens : Listens (channelLeft c told)
+  pub expected : channelLeft c told .expected ≡ (c .expected + blocks) % 16
 
--- "taken" .. "message" for each
-abbrev pub heardAll : List Message → List Outcome
-heardAll [] = []
-heardAll (m ∷ messages) = heard (headerFor (m .fields) (length (m .bytes))) ++ heardAll messages
-
--- of a group written, the blocks of the output through a channel: "taken" .. "message" for each message written, and the channel listens again and
--- expects the SC after the last block's; and the messages that it gave through a group state: "taken" .. "group" with the data's length, the
--- state idle, and the data in front of the buffer
-pub record GroupBack (x : Series) (s : List ℕ) (w : Wrote) (c : Channel) (steps : List Stepped) (g : Group) (buffer : List ℕ) (joins : List JoinResult) : Type 0 where
-  pub channelAnswers : answersIn steps ≡ heardAll (messagesOf (messagesFor (length s)) true (x .number) (x .ri) (x .ci) s)
-  pub messages : messagesIn steps ≡ messagesOf (messagesFor (length s)) true (x .number) (x .ri) (x .ci) s
-  pub listens : Listens (channelLeft c steps)
-  pub expected : channelLeft c steps .expected ≡ (x .sc + w .blocks) % 16
-  pub answers : joinAnswers joins ≡ replicate (messagesFor (length s) - 1) group.taken ++ (group.whole (length s) ∷ [])
-  pub state : groupLeft g joins ≡ idle (x .number)
-  pub bytes : take (length s) (bufferLeft buffer joins) ≡ s
+-- of a group written, its blocks through a channel, and the messages that it gave through a group state: "taken" .. "group" with the data's length,
+-- the state idle, and the data in front of the buffer
+pub record GroupBack (x : Series) (s : List ℕ) (blocks : ℕ) (c : Channel) (told : List ChannelAfter) (g : GroupAndBuffer) (joined : List GroupAfter) : Type 0 where
+  pub read : AllRead (messagesOf (messagesFor (length s)) true (x .number) (x .ri) (x .ci) s) blocks c told
+  pub answers : map (λ t. t .answer) joined ≡ replicate (messagesFor (length s) - 1) group.taken ++ (group.whole (length s) ∷ [])
+  pub state : stateLeft leftBy g joined .group ≡ idle (x .number)
+  pub bytes : take (length s) (stateLeft leftBy g joined .buffer) ≡ s

@@ -5,7 +5,7 @@ use native.Mathlib.Numerals.{unary-clauses}
 use native.Mathlib.Omega.{arith}
 use borrow.Author.Needs.{needs}
 use lib.ListN.{length, drop, replicate}
-use Rattle.header.specs.Fields.{behind, headerFrom}
+use Rattle.header.specs.Header.{behind, headerFrom}
 use Rattle.channel.proofs.Rows.{room, header-turn, header-end}
 use Rattle.channel.proofs.header_from.Statement.{statement}
 use Rattle.channel.proofs.header_from.Tie as tie

@@ -1,7 +1,8 @@
 -- `gf2::divide`: the i leading places are the quotient so far, and dividing the rest goes on from place i. Assumes nothing.
 use native.Mathlib.Numerals.{unary-clauses}
 use borrow.Rule.Slice.PartMut.{putMid}
-use Rattle.gf2.proofs.Lists.{tail-lent, tail-back}
+use borrow.Rule.Slice.PartAt.{part-to-end}
+use Rattle.gf2.proofs.Lists.{tail-back}
 use Rattle.gf2.proofs.Turns.{zero-turn, one-turn, added-length, divided-end}
 use Rattle.gf2.specs.Poly.{add, divided}
 use lib.ListN.{length, take, drop}
@@ -60,7 +61,7 @@ loop-again c =
     let i = h .loop .i in
     let next : putMid (i + 1) (length row - (i + 1)) row (c .before .before .add-in .last .1 .0) ≡ take (i + 1) row ++ add low (drop (i + 1) row) =
     tail-back row (c .before .before .add-in .last .1 .0) (i + 1)
-    ∙ ap (λ xs. take (i + 1) row ++ xs) (c .before .before .add-in .ensures ∙ ap (add low) (tail-lent row (i + 1))) in (
+    ∙ ap (λ xs. take (i + 1) row ++ xs) (c .before .before .add-in .ensures ∙ ap (add low) (part-to-end row (i + 1))) in (
       search needs,
       ap length next ∙ added-length low row i (omega arith) ∙ h .loop .inv .1,
       one-turn low row _ i _ (omega arith) (omega arith) (h .loop .inv .2) _ next (c .before .before .before .before .if2 .taken),

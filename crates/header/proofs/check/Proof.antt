@@ -1,10 +1,11 @@
 -- `header::check`: what the bits so far are, with those from place i on behind them, is the whole number. Assumes nothing.
 use Rattle.header.proofs.Sums.{check-turn}
-use Rattle.header.proofs.Bits.{six-bits}
-use Rattle.header.specs.Check.{bits, onto, six, check}
+use Rattle.header.proofs.Bits.{onto}
+use Rattle.header.specs.Header.{bits, six, check}
 use Rattle.gf2.specs.Poly.{checkOf}
 use Rattle.gf2.proofs.Remainders.{length-check}
 use lib.ListN.{drop, drop-of-length-le}
+use lib.Pow.{pow-mono}
 use borrow.Author.Needs.{needs}
 use native.Mathlib.Omega.{arith}
 use mathlib.Core.Path.{_≡_, refl, sym, ap, _∙_}
@@ -23,7 +24,7 @@ unfolding check
 loop-holds c = (omega arith, omega arith, refl)
 
 mul-bits : tie.Need-mul-bits Inv-loop μ-loop
-mul-bits c = omega (arith, six-bits (c .before .loop .i) (omega arith))
+mul-bits c = omega (arith, pow-mono {i = c .before .loop .i} {j = 6} (omega arith))
 
 mul-parity : tie.Need-mul-parity Inv-loop μ-loop
 mul-parity c = search needs
@@ -37,7 +38,7 @@ parity-requires c κs = search needs
 add-bits : tie.Need-add-bits Inv-loop μ-loop
 add-bits c =
     let l = c .before .before .loop in
-    omega (arith, six-bits (l .i) (omega arith), c .parity .ensures .1)
+    omega (arith, pow-mono {i = l .i} {j = 6} (omega arith), c .parity .ensures .1)
 
 add-i : tie.Need-add-i Inv-loop μ-loop
 add-i c = search needs

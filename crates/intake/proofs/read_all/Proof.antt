@@ -1,5 +1,4 @@
 -- `intake::read_all`: at each turn some bytes lead to the reader. Assumes nothing.
-use lib.Dec.{lit<}
 use lib.ListN.{length}
 use mathlib.Core.Path.{_≡_, refl, sym, _∙_}
 use mathlib.Core.List.{[]}
@@ -22,7 +21,7 @@ start-requires c κs = tt
 
 -- no byte has come yet
 reached-fresh : (s : Reader) → s ≡ freshReader → Reached s
-reached-fresh s e = record { bytes = []; small = λ k. lit< tt; led = run-none freshReader ∙ sym e }
+reached-fresh s e = record { bytes = []; small = refl; led = run-none freshReader ∙ sym e }
 
 loop-holds : tie.Need-loop-holds Inv-loop μ-loop
 loop-holds c = (refl, reached-fresh _ (c .start .ensures))

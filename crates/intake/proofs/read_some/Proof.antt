@@ -1,13 +1,12 @@
 -- `intake::read_some`: the piece goes behind the bytes before it. Assumes nothing.
-use Prim.Native.Nat.{ℕ, zero, suc, _<_}
+use Prim.Native.Nat.{ℕ}
 use mathlib.Core.Path.{_≡_, sym, ap, _∙_}
-use mathlib.Core.List.{List, [], _∷_, _++_}
-use lib.Dec.{lit<}
-use mir.Syntax.{w8}
-use mir.Val.{Fits}
-use lib.ListN.{getD, take}
+use mathlib.Core.Bool.{true}
+use mathlib.Core.List.{List, _++_}
+use lib.Pow.{areBytes}
 use native.Mathlib.Omega.{arith}
 use borrow.Author.Needs.{needs}
+use Rattle.answers.proofs.Bytes.{bytes-each, bytes-append, bytes-parts}
 use Rattle.log.specs.declared.Fed.{Fed}
 use Rattle.log.specs.declared.Reader.{Reader}
 use Rattle.log.specs.Reader.{ToldFed, toldFed, fedOf}
@@ -16,27 +15,12 @@ use Rattle.intake.specs.Intake.{Reached}
 use Rattle.intake.proofs.read_some.Statement.{statement}
 use Rattle.intake.proofs.read_some.Tie as tie
 
--- bytes, and more bytes behind them
-small-append : (xs ys : List ℕ) → ((k : ℕ) → getD xs k 0 < 256) → ((k : ℕ) → getD ys k 0 < 256) → (k : ℕ) → getD (xs ++ ys) k 0 < 256
-small-append [] ys f g k = g k
-small-append (x ∷ xs) ys f g zero = f 0
-small-append (x ∷ xs) ys f g (suc k) = small-append xs ys (λ j. f (suc j)) g k
-
-small-known : (xs : List ℕ) → ((k : ℕ) → Fits w8 (getD xs k 0)) → (k : ℕ) → getD xs k 0 < 256
-small-known xs f k = omega (arith, f k)
-
-small-take : (n : ℕ) (xs : List ℕ) → ((k : ℕ) → getD xs k 0 < 256) → (k : ℕ) → getD (take n xs) k 0 < 256
-small-take zero xs f k = lit< tt
-small-take (suc n) [] f k = f k
-small-take (suc n) (x ∷ xs) f zero = f 0
-small-take (suc n) (x ∷ xs) f (suc k) = small-take n xs (λ j. f (suc j)) k
-
 -- a piece leads on
-reached-next : (s : Reader) (piece : List ℕ) (fed : Fed) → Reached s → ((k : ℕ) → getD piece k 0 < 256) → toldFed fed ≡ fedOf s piece → Reached (fed .reader)
+reached-next : (s : Reader) (piece : List ℕ) (fed : Fed) → Reached s → areBytes piece ≡ true → toldFed fed ≡ fedOf s piece → Reached (fed .reader)
 reached-next s piece fed r small e =
     record {
       bytes = r .bytes ++ piece;
-      small = small-append (r .bytes) piece (r .small) small;
+      small = bytes-append (r .bytes) piece ∙ rw (r .small, small);
       led = sym (piece-next (r .bytes) piece) ∙ ap (λ (t : Reader). fedOf t piece .reader) (r .led) ∙ sym (ap (λ (t : ToldFed). t .reader) e);
     }
 
@@ -68,7 +52,7 @@ returns-2 : tie.Need-returns-2
 returns-2 c =
     let room = c .before .before .before .before .before .before .before .before .read .last .1 .0 in
     let known = c .before .before .before .before .before .before .slice-known2 .given in
-    reached-next _ _ (c .before .feed .result) (search needs) (small-take (c .before .before .before .count .result) room (small-known room known)) (c .before .feed .ensures)
+    reached-next _ _ (c .before .feed .result) (search needs) (bytes-parts (c .before .before .before .count .result) room (bytes-each room (λ k. omega (arith, known k))) .0) (c .before .feed .ensures)
 
 pub read-some-spec : {M : Type 1} → statement M
 read-some-spec =

@@ -1,9 +1,7 @@
 -- `log::after_end`: an open reader has ended well between two lines, once it has its channel. Assumes nothing.
 use Rattle.log.proofs.Runs.{ruled, ended}
 use Rattle.log.specs.Reader.{fine}
-use lib.ListN.{length}
-use mathlib.Core.Path.{_≡_, sym, ap, _∙_}
-use borrow.Author.Needs.{needs}
+use mathlib.Core.Path.{sym, ap, _∙_}
 use Rattle.log.proofs.after_end.Statement.{statement}
 use Rattle.log.proofs.after_end.Tie as tie
 
@@ -15,18 +13,14 @@ bad-line-requires c κs = ruled _ (c .before .before .before .before .before .pr
 
 returns : tie.Need-returns
 returns c =
-    let a = c .before .before .before .before .before .before in
-    let f : length (a .args .reader .held) ≡ 63 = search needs in
-    c .bad-line .ensures ∙ sym (ended (a .args .reader) (a .pre, f) ∙ rw (sym (c .before .before .before .before .is-refused .ensures), c .before .if1 .taken))
+    c .bad-line .ensures ∙ sym (ended (c .before .before .before .before .before .before .args .reader) ∙ rw (sym (c .before .before .before .before .is-refused .ensures), c .before .if1 .taken))
 
 between-lines-requires : tie.Need-between-lines-requires
 between-lines-requires c κs = tt
 
 returns-2 : tie.Need-returns-2
 returns-2 c =
-    let a = c .before .before .before .before .before .before in
-    let f : length (a .args .reader .held) ≡ 63 = search needs in
-    ap fine (c .between-lines .ensures) ∙ sym (ended (a .args .reader) (a .pre, f) ∙ rw (sym (c .before .before .before .before .is-refused .ensures), c .before .if1 .left))
+    ap fine (c .between-lines .ensures) ∙ sym (ended (c .before .before .before .before .before .before .args .reader) ∙ rw (sym (c .before .before .before .before .is-refused .ensures), c .before .if1 .left))
 
 pub after-end-spec : {M : Type 1} → statement M
 after-end-spec =

@@ -1,6 +1,5 @@
 use Rattle.log.proofs.Runs.{Kept, ruled, run-kept, fed-refused, fed-open}
-use Rattle.log.specs.Reader.{fedAt, fedOf}
-use Rattle.log.specs.declared.Reader.{Reader}
+use Rattle.log.specs.Reader.{afterPiece, fedOf}
 use borrow.Author.Tests.{not-true, not-false}
 use denote.Ref.{now}
 use lib.ListN.{length}
@@ -34,9 +33,9 @@ kept c =
 bad-line-requires : tie.Need-bad-line-requires
 bad-line-requires c κs = ruled _ (kept (c .before) .0) .before
 
-told : (c : tie.After-is-refused) → let a = c .before .before .before .before .before .before .args in fedAt (c .before .before .run .result .phase) (c .before .before .run .result) ≡ fedOf (a .reader) (now (a .piece))
+told : (c : tie.After-is-refused) → let a = c .before .before .before .before .before .before .args in afterPiece (c .before .before .run .result) ≡ fedOf (a .reader) (now (a .piece))
 unfolding fedOf
-told c = ap (λ (t : Reader). fedAt (t .phase) t) (c .before .before .run .ensures) ∙ sym (rw (sym (c .before .before .before .before .is-reader .ensures) ∙ not-false _ (c .before .before .before .if1 .left)))
+told c = ap afterPiece (c .before .before .run .ensures) ∙ sym (rw (sym (c .before .before .before .before .is-reader .ensures) ∙ not-false _ (c .before .before .before .if1 .left)))
 
 returns-2 : tie.Need-returns-2
 returns-2 c =

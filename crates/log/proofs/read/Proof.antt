@@ -1,6 +1,6 @@
 use denote.Ref.{now}
 use Rattle.log.proofs.Runs.{run-kept, fresh-kept}
-use Rattle.log.specs.Reader.{run, endedAt, wholeOf, readOf}
+use Rattle.log.specs.Reader.{run, afterEnd, wholeOf, readOf}
 use Rattle.log.specs.declared.Reader.{Reader}
 use mathlib.Core.Path.{_∙_, ap}
 use Rattle.log.proofs.read.Statement.{statement}
@@ -17,7 +17,7 @@ after-end-requires c κs = rw (c .run .ensures, c .before .start .ensures) (run-
 
 returns : tie.Need-returns
 unfolding readOf
-returns c = ap wholeOf (c .before .before .after-end .ensures ∙ ap (λ (t : Reader). endedAt (t .phase) t) (c .before .before .before .run .ensures ∙ ap (λ (t : Reader). run t (now (c .before .before .before .before .before .before .args .log))) (c .before .before .before .before .start .ensures)))
+returns c = ap wholeOf (c .before .before .after-end .ensures ∙ ap afterEnd (c .before .before .before .run .ensures ∙ ap (λ (t : Reader). run t (now (c .before .before .before .before .before .before .args .log))) (c .before .before .before .before .start .ensures)))
 
 pub read-spec : {M : Type 1} → statement M
 read-spec = tie.close (tie.spec start-requires run-requires after-end-requires returns)

@@ -1,5 +1,5 @@
 use Rattle.summary.proofs.Texts.{grows-then}
-use Rattle.summary.specs.Report.{line, thousandths, meanLine}
+use Rattle.summary.specs.Report.{line, thousandths}
 use borrow.Author.Tests.{eq-eqb, ne-eqb}
 use borrow.Author.Needs.{needs}
 use Rattle.summary.proofs.put_mean.Statement.{statement}
@@ -18,7 +18,7 @@ put-requires-2 : tie.Need-put-requires-2
 put-requires-2 c κs = search needs
 
 returns : tie.Need-returns
-unfolding meanLine line thousandths
+unfolding line thousandths
 returns c = rw (eq-eqb (c .before .before .before .before .before .before .args .counts .read) 0 (c .before .before .if1 .taken)) (grows-then (c .before .before .before .before .put .ensures) (c .put2 .ensures))
 
 cast-thousandths : tie.Need-cast-thousandths
@@ -40,7 +40,7 @@ put-byte-requires : tie.Need-put-byte-requires
 put-byte-requires c κs = search needs
 
 returns-2 : tie.Need-returns-2
-unfolding meanLine line thousandths
+unfolding line thousandths
 returns-2 c = rw (ne-eqb (c .before .before .before .before .before .before .before .before .args .counts .read) 0 (c .before .before .before .before .if1 .left)) (grows-then (c .before .before .before .before .before .before .put .ensures) (grows-then (c .before .put-number .ensures) (c .put-byte .ensures)))
 
 pub put-mean-spec : {M : Type 1} → statement M

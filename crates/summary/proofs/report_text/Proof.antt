@@ -1,29 +1,48 @@
+use Prim.Native.Nat.{ℕ}
+use mathlib.Core.Path.{ap}
+use native.Mathlib.Omega.{arith}
+use Rattle.log.specs.Decimal.{decimal}
+use Rattle.summary.specs.Report.{line, reportOf}
 use Rattle.summary.proofs.Fits.{report-fits}
-use Rattle.summary.proofs.Texts.{grows-whole, grows-then}
-use Rattle.summary.specs.Report.{reportOf}
+use Rattle.summary.proofs.Texts.{grows-whole, grows-then, grows-same}
 use borrow.Author.Needs.{needs}
 use Rattle.summary.proofs.report_text.Statement.{statement}
 use Rattle.summary.proofs.report_text.Tie as tie
 
-empty-requires : tie.Need-empty-requires
-empty-requires c κs = search needs
-
-put-read-requires : tie.Need-put-read-requires
-put-read-requires c κs = search needs
-
-put-unread-requires : tie.Need-put-unread-requires
-put-unread-requires c κs = search needs
-
-put-mean-requires : tie.Need-put-mean-requires
-put-mean-requires c κs = search needs
-
 returns : tie.Need-returns
 unfolding reportOf
 returns c =
-    grows-whole (c .before .before .before .empty .ensures) (report-fits (c .before .before .before .before .args .counts))
-    (grows-then (c .before .before .put-read .ensures) (grows-then (c .before .put-unread .ensures) (c .put-mean .ensures)))
+    let m = c .before .before .before .before .before .before .before in
+    grows-whole (c .before .before .before .before .before .before .before .before .before .before .before .before .before .before .before .before .before .before .empty .ensures) (omega (arith, report-fits (c .before .before .before .before .before .before .before .before .before .before .before .before .before .before .before .before .before .before .before .args .counts)))
+    (grows-then (grows-same (ap (λ (n : ℕ). line _ (decimal n)) (c .before .before .before .before .before .before .before .before .before .before .before .before .before .before .before .before .frequency .ensures)) (c .before .before .before .before .before .before .before .before .before .before .before .before .before .before .before .put-line .ensures))
+    (grows-then (c .before .before .before .before .before .before .before .before .before .before .before .before .before .put-line2 .ensures)
+    (grows-then (m .before .before .before .before .put-line3 .ensures)
+    (grows-then (m .before .before .put-line4 .ensures)
+    (grows-then (m .put-line5 .ensures)
+    (grows-then (c .before .before .before .before .before .put-line6 .ensures)
+    (grows-then (c .before .before .before .put-line7 .ensures) (grows-then (c .before .put-line8 .ensures) (c .put-mean .ensures)))))))))
 
 pub report-text-spec : {M : Type 1} → statement M
 report-text-spec =
     tie.close
-    (tie.spec empty-requires put-read-requires put-unread-requires put-mean-requires returns)
+    (tie.spec
+    (λ c κs. search needs)
+    (λ c. search needs)
+    (λ c κs. search needs)
+    (λ c κs. search needs)
+    (λ c. search needs)
+    (λ c κs. search needs)
+    (λ c. search needs)
+    (λ c κs. search needs)
+    (λ c. search needs)
+    (λ c κs. search needs)
+    (λ c. search needs)
+    (λ c κs. search needs)
+    (λ c. search needs)
+    (λ c κs. search needs)
+    (λ c. search needs)
+    (λ c κs. search needs)
+    (λ c. search needs)
+    (λ c κs. search needs)
+    (λ c κs. search needs)
+    returns)

@@ -3,9 +3,9 @@ use Prim.Native.Nat.{ℕ, _+_, _%_}
 use mathlib.Core.List.{List}
 use mathlib.Core.Path.{ap, _∙_}
 use native.Mathlib.Omega.{arith}
+use borrow.Rule.Slice.PartAt.{part-to-end}
 use lib.ListN.{length-drop}
 use lib.Seq.{paste}
-use Rattle.gf2.proofs.Lists.{tail-lent}
 use Rattle.channel.specs.State.{afterJoining}
 use Rattle.channel.proofs.Laws.{rule-bytes}
 use Rattle.channel.proofs.Steps.{waits, out-of-step, too-many, joins-on}
@@ -58,7 +58,7 @@ join-on-requires c κs =
     let s = c .before .before .before .before .before .before .before .before .before in
     let a = s .args in
     let p = s .pre in
-    (omega (arith, rule-bytes (a .self) (p .0), c .before .if3 .left), p .2 .3, rw tail-lent (length-drop 2 (a .information .now) ∙ omega (arith, p .1)))
+    (omega (arith, rule-bytes (a .self) (p .0), c .before .if3 .left), p .2 .3, rw part-to-end (length-drop 2 (a .information .now) ∙ omega (arith, p .1)))
 
 returns-4 : tie.Need-returns-4
 returns-4 c =
@@ -68,7 +68,7 @@ returns-4 c =
     let a = s .args in
     let p = s .pre in
     c .join-on .ensures
-    ∙ ap (λ (part : List ℕ). afterJoining (paste (a .self .bytes) (a .self .gathered) part 20) (a .self .gathered + 20) (a .header .lf) ((a .header .sc + 1) % 16)) (tail-lent (a .information .now) 2)
+    ∙ ap (λ (part : List ℕ). afterJoining (paste (a .self .bytes) (a .self .gathered) part 20) (a .self .gathered + 20) (a .header .lf) ((a .header .sc + 1) % 16)) (part-to-end (a .information .now) 2)
     ∙ joins-on _ _ _ (p .0) (p .1) (p .2) (p .3) (p .4) _ (w .is-waiting .ensures) (q .before .before .before .if1 .left) (q .if2 .left) (c .before .before .if3 .left)
 
 pub advance-spec : {M : Type 1} → statement M

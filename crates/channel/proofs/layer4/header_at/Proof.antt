@@ -4,7 +4,7 @@ use mathlib.Core.Path.{_≡_, sym, ap, _∙_}
 use native.Mathlib.Omega.{arith}
 use lib.ListN.{length, take}
 use lib.Seq.{length-take-le}
-use Rattle.header.specs.Fields.{headerFrom}
+use Rattle.header.specs.Header.{headerFrom}
 use Rattle.channel.specs.Layer4.{opened, openedAt, extOf}
 use Rattle.channel.proofs.Laws.{size-room}
 use borrow.Author.Needs.{needs}

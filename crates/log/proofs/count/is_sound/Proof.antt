@@ -10,39 +10,6 @@ returns : tie.Need-returns
 unfolding isSound
 returns c = rw (lt-leb (c .before .before .args .counts .clean) (c .before .before .args .counts .read) (c .if1 .taken), and-false)
 
-cast-told : tie.Need-cast-told
-cast-told c = search needs
-
-cast-told-2 : tie.Need-cast-told-2
-cast-told-2 c = search needs
-
-add-told : tie.Need-add-told
-add-told c = search needs
-
-cast-told-3 : tie.Need-cast-told-3
-cast-told-3 c = search needs
-
-add-told-2 : tie.Need-add-told-2
-add-told-2 c = search needs
-
-cast-told-4 : tie.Need-cast-told-4
-cast-told-4 c = search needs
-
-add-told-3 : tie.Need-add-told-3
-add-told-3 c = search needs
-
-cast-result : tie.Need-cast-result
-cast-result c = search needs
-
-cast-result-2 : tie.Need-cast-result-2
-cast-result-2 c = search needs
-
-cast-result-3 : tie.Need-cast-result-3
-cast-result-3 c = search needs
-
-mul-result : tie.Need-mul-result
-mul-result c = search needs
-
 returns-2 : tie.Need-returns-2
 unfolding isSound
 returns-2 c =
@@ -55,15 +22,15 @@ is-sound-spec =
     tie.close
     (tie.spec
     returns
-    cast-told
-    cast-told-2
-    add-told
-    cast-told-3
-    add-told-2
-    cast-told-4
-    add-told-3
-    cast-result
-    cast-result-2
-    cast-result-3
-    mul-result
+    (λ c. search needs)
+    (λ c. search needs)
+    (λ c. search needs)
+    (λ c. search needs)
+    (λ c. search needs)
+    (λ c. search needs)
+    (λ c. search needs)
+    (λ c. search needs)
+    (λ c. search needs)
+    (λ c. search needs)
+    (λ c. search needs)
     returns-2)

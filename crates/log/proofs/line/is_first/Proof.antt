@@ -2,7 +2,6 @@
 use Rattle.text.specs.Fields.{sameAs}
 use Rattle.log.specs.Decimal.{decimal}
 use Rattle.log.proofs.Lines.{first-parts, first-short}
-use Rattle.log.proofs.Lists.{tail-part}
 use Prim.Native.Nat.{ℕ}
 use mathlib.Core.List.{List}
 use mathlib.Core.Path.{sym, ap, _∙_}
@@ -10,6 +9,7 @@ use native.Mathlib.Omega.{arith}
 use lib.Seq.{length-take-le}
 use denote.Ref.{now}
 use borrow.Author.Needs.{needs}
+use borrow.Rule.Slice.PartAt.{part-to-end}
 use Rattle.log.proofs.line.is_first.Statement.{statement}
 use Rattle.log.proofs.line.is_first.Tie as tie
 use Rattle.text.proofs.same.Reads as same-reads
@@ -42,7 +42,7 @@ returns-2 : tie.Need-returns-2
 returns-2 c =
     let a = c .before .before .before .before .before .before .before .args in
     let l = now (a .line) in
-    rw (c .before .before .same .ensures, c .spells .ensures ∙ ap (λ (k : List ℕ). sameAs k (decimal (a .channel))) (tail-part 8 l (omega arith)))
+    rw (c .before .before .same .ensures, c .spells .ensures ∙ ap (λ (k : List ℕ). sameAs k (decimal (a .channel))) (part-to-end l 8))
     (sym (first-parts l (a .channel) (omega arith)))
 
 pub is-first-spec : {M : Type 1} → statement M

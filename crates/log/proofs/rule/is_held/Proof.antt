@@ -3,7 +3,6 @@ use Prim.Native.Nat.{ℕ, _-_, _≤_}
 use Rattle.text.specs.Fields.{sameAs}
 use Rattle.log.proofs.Runs.{zeros}
 use Rattle.log.proofs.Plain.{held-plain}
-use Rattle.log.proofs.Lists.{tail-part}
 use Rattle.log.specs.Reader.{isHeld}
 use mathlib.Core.List.{List}
 use mathlib.Core.Path.{sym, ap, _∙_}
@@ -11,6 +10,7 @@ use native.Mathlib.Omega.{arith}
 use lib.ListN.{length, take, drop}
 use denote.Ref.{now}
 use borrow.Author.Needs.{needs}
+use borrow.Rule.Slice.PartAt.{part-to-end}
 use Rattle.log.proofs.rule.is_held.Statement.{statement}
 use Rattle.log.proofs.rule.is_held.Tie as tie
 
@@ -46,8 +46,8 @@ returns c =
     let l = now (a .args .held) in
     let n = a .args .count in
     let few : n ≤ length l = omega (arith, a .pre .0, a .pre .1) in
-    let same = c .same .ensures ∙ ap (λ (k : List ℕ). sameAs k (take (63 - n) (drop n zeros))) (tail-part n l few)
-    ∙ ap (λ (k : List ℕ). sameAs (drop n l) k) (tail-part n zeros (a .pre .1)) in
+    let same = c .same .ensures ∙ ap (λ (k : List ℕ). sameAs k (take (63 - n) (drop n zeros))) (part-to-end l n)
+    ∙ ap (λ (k : List ℕ). sameAs (drop n l) k) (part-to-end zeros n) in
     rw same (sym (rw (held-plain l n (f .find .result) few (f .find .ensures .0))))
 
 pub is-held-spec : {M : Type 1} → statement M

@@ -1,8 +1,8 @@
 use Rattle.summary.proofs.Limbs.{decimals-more, decimals-end, decimals-out, grown-fits}
 use Rattle.summary.proofs.Texts.{content-fits, grows-same, grows-then}
-use Rattle.summary.specs.Building.{content, Grows}
+use Rattle.summary.specs.Building.{room, content, Grows}
 use Rattle.summary.specs.Export.{decimals}
-use Rattle.summary.specs.declared.text.Text.{Text}
+use Rattle.summary.specs.declared.building.Text.{Text}
 use lib.ListN.{length}
 use borrow.Author.Needs.{needs}
 use native.Mathlib.Omega.{arith}
@@ -12,13 +12,13 @@ use Rattle.summary.proofs.binary.put_decimals.Statement.{statement}
 use Rattle.summary.proofs.binary.put_decimals.Tie as tie
 
 abbrev Inv-loop : tie.InvT-loop
-Inv-loop high low so-far₀ above₀ below₀ more₀ so-far above below more = (above < 2 ^ 36) × (below < 2 ^ 36) × (length (content so-far) ≤ 384) × ((v : Text) → Grows so-far (decimals more (above * 2 ^ 36 + below) (2 ^ 72)) v → Grows so-far₀ (decimals 1074 (high * 2 ^ 36 + low) (2 ^ 72)) v)
+Inv-loop high low so-far₀ above₀ below₀ more₀ so-far above below more = (above < 2 ^ 36) × (below < 2 ^ 36) × (length (content so-far) ≤ room) × ((v : Text) → Grows so-far (decimals more (above * 2 ^ 36 + below) (2 ^ 72)) v → Grows so-far₀ (decimals 1074 (high * 2 ^ 36 + low) (2 ^ 72)) v)
 
 abbrev μ-loop : tie.MeasureT-loop
 μ-loop high low so-far₀ above₀ below₀ more₀ so-far above below more = more
 
 loop-holds : tie.Need-loop-holds Inv-loop μ-loop
-loop-holds c = let f : length (c .args .text .bytes) ≡ 384 = search needs in (c .pre .0, c .pre .1, content-fits (c .args .text) f, λ v g. g)
+loop-holds c = let f : length (c .args .text .bytes) ≡ room = search needs in (c .pre .0, c .pre .1, content-fits (c .args .text) f, λ v g. g)
 
 add-if1 : tie.Need-add-if1 Inv-loop μ-loop
 add-if1 c = omega arith

@@ -13,17 +13,17 @@ shl-factor : tie.Need-shl-factor
 shl-factor c = search needs
 
 mul-low : tie.Need-mul-low
-mul-low c = let b = bounds (c .args .field) (c .args .digits) (c .pre) in record { fits = omega (arith, b .low, b .factor) }
+mul-low c = let b = bounds (c .args .field) (c .args .digits) (c .pre .1) (c .pre .2) in record { fits = omega (arith, b .low, b .factor) }
 
 mul-t6 : tie.Need-mul-t6
-mul-t6 c = let b = bounds (c .args .field) (c .args .digits) (c .pre) in record { fits = omega (arith, b .high, b .factor) }
+mul-t6 c = let b = bounds (c .args .field) (c .args .digits) (c .pre .1) (c .pre .2) in record { fits = omega (arith, b .high, b .factor) }
 
 add-t8 : tie.Need-add-t8
-add-t8 c = let b = bounds (c .args .field) (c .args .digits) (c .pre) in record { fits = omega (arith, b .high, b .low, b .factor) }
+add-t8 c = let b = bounds (c .args .field) (c .args .digits) (c .pre .1) (c .pre .2) in record { fits = omega (arith, b .high, b .low, b .factor) }
 
 returns : tie.Need-returns
 returns c =
-    let b = bounds (c .args .field) (c .args .digits) (c .pre) in let f = factor-is (c .args .field) (c .pre .most) in
+    let b = bounds (c .args .field) (c .args .digits) (c .pre .1) (c .pre .2) in let f = factor-is (c .args .field) (c .pre .1) in
     (limb-value (c .args .digits) _ 68719476736 ∙ ap (λ (k : ℕ). c .args .digits * k) f, omega arith, omega (arith, b .high, b .low, b .factor))
 
 pub scale-spec : {M : Type 1} → statement M
