@@ -3,21 +3,16 @@ use Prim.Native.Nat.{ℕ, _+_, _%_, _≤_, _<_}
 use mathlib.Core.Path.{_≡_, sym, _∙_}
 use mathlib.Core.Bool.{Bool, true, false, not}
 use mathlib.Core.List.{List}
-use borrow.Author.Tests.{eq-eqb, ne-eqb, le-ltb, lt-ltb, not-true, not-false}
+use borrow.Author.Tests.{eq-eqb, ne-eqb, le-ltb, lt-ltb, not-true}
 use lib.Dec.{eqb, ltb}
 use lib.ListN.{length, drop}
 use lib.Seq.{paste}
 use Rattle.answers.specs.Rules.{unless}
-use Rattle.header.specs.Header.{total, holds}
 use Rattle.channel.specs.Answers.{refused, ChannelAfter, channelAfter}
-use Rattle.channel.specs.Layer3.{layer3, headerOf, siLchOf, lfOf, scOf}
+use Rattle.channel.specs.Layer3.{headerOf, Reads}
 use Rattle.channel.specs.State.{keepsRule, isWaiting, asWaiting, afterJoining, stepOf}
 use Rattle.channel.specs.declared.Channel.{Channel}
 use Rattle.channel.specs.declared.layer3.BlockHeader.{BlockHeader}
-
--- the header h of a block, as the code has it in b
-abbrev Reads : BlockHeader → ℕ → Type 0
-Reads b h = (b .«si_lch» ≡ siLchOf h) × (b .lf ≡ lfOf h) × (b .sc ≡ scOf h) × (b .sc < 16) × (b .checked ≡ holds (total layer3) h)
 
 module _ (c : Channel) (information : List ℕ) (b : BlockHeader) (rule : keepsRule c ≡ true) (long : length information ≡ 22) (is : Reads b (headerOf information)) where
   abbrev left : Channel
@@ -39,11 +34,11 @@ module _ (c : Channel) (information : List ℕ) (b : BlockHeader) (rule : keepsR
     pub wrong-check : not (b .checked) ≡ true → channelAfter (refused 4) c ≡ stepOf c information
     wrong-check e = sym (by-header ∙ rw (eq-eqb _ _ ours, not-true (b .checked) e))
 
-    module _ (checked : not (b .checked) ≡ false) where
+    module _ (checked : b .checked ≡ true) where
       -- a right header decides by the state
       by-state : stepOf c information ≡ unless (not (isWaiting (c .phase))) (channelAfter (refused 8) left) (unless (eqb (b .sc) (c .expected)) (channelAfter (refused 8) left)
           (unless (ltb (c .gathered) 260) (channelAfter (refused 9) left) joined))
-      by-state = by-header ∙ rw (eq-eqb _ _ ours, not-false (b .checked) checked)
+      by-state = by-header ∙ rw (eq-eqb _ _ ours, checked)
 
       module _ (w : Bool) (phase : w ≡ isWaiting (c .phase)) where
         pub waits : w ≡ true → channelAfter (refused 8) left ≡ stepOf c information

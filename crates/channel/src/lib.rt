@@ -1,12 +1,14 @@
 // The long message channel of document 01, layers 3 and 4: a channel state takes information blocks of 22 bytes and
 // gives messages.
+ghost use mathlib.Core.Bool.{true};
 ghost use mathlib.Core.Path.{_≡_};
 ghost use Prim.Native.Nat.{_*_, _<_, _≤_, _^_};
 ghost use lib.ListN.{length};
 ghost use Rattle.header.specs.Header.{headerFrom};
 ghost use Rattle.channel.specs.Answers.{toldStep};
+ghost use Rattle.channel.specs.Layer3.{headerOf, Reads};
 ghost use Rattle.channel.specs.Layer4.{sizeOf, blocksFor};
-ghost use Rattle.channel.specs.State.{fresh, stepOf};
+ghost use Rattle.channel.specs.State.{fresh, keepsRule, stepOf};
 
 mod layer3;
 mod layer4;
@@ -14,6 +16,7 @@ mod state;
 
 pub use answers::INFORMATION_BYTES;
 use answers::Refusal;
+use layer3::BlockHeader;
 
 // The data in an information block, and the most that is gathered of a message, its header included, in bytes.
 pub const DATA_IN_BLOCK: usize = 20;
@@ -90,9 +93,7 @@ impl Channel {
     }
 
     // Takes one information block. Refused, with the channel as it stood: a state outside its rule (11), another
-    // length than 22 (1), another channel (5), a wrong check (4). Dropped, then as waiting: a waiting channel (8), another
-    // SC than the expected one (8), a fourteenth block (9). Else the block is joined on: "taken", or with LF what the
-    // message's own tests say (6, 4, 14, 7, or the message).
+    // length than 22 (1), another channel (5), a wrong check (4). Then as `advance` says.
     pub fn step(self, information: &[u8]) -> Stepped
         ensures { λ r. ⌜ toldStep r ≡ stepOf self (now (information .entry)) ⌝ }
     {
@@ -109,6 +110,17 @@ impl Channel {
         if !header.checked {
             return state::refused(Refusal::HeaderCheck, self);
         }
+        self.advance(header, information)
+    }
+
+    // A block with a right header. Dropped, then as waiting: where the channel waits (8), for another SC than the
+    // expected one (8), for a fourteenth block (9). Else the block is joined on: "taken", or with LF what the message's
+    // own tests say (6, 4, 14, 7, or the message). A function of its own, since in one with `step` the compiler copies the
+    // bytes once more.
+    fn advance(self, header: BlockHeader, information: &[u8]) -> Stepped
+        requires { ⌜ (keepsRule self ≡ true) × (length (now information) ≡ 22) × Reads header (headerOf (now information)) × (header .«si_lch» ≡ 10) × (header .checked ≡ true) ⌝ }
+        ensures { λ r. ⌜ toldStep r ≡ stepOf self (now (information .entry)) ⌝ }
+    {
         let phase = self.phase;
         if state::is_waiting(phase) {
             return state::dropped(Refusal::OutOfStep, self, header);

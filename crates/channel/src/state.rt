@@ -75,18 +75,18 @@ pub(crate) fn dropped(refusal: Refusal, channel: Channel, header: BlockHeader) -
     }
 }
 
-// Joins twenty bytes on. With LF the bytes gathered are read as a message, and the channel is ready for the next.
+// Joins twenty bytes on. With LF all that is gathered is read as a message, and the channel is ready for the next.
 pub(crate) fn join_on(channel: Channel, header: BlockHeader, twenty: &[u8]) -> Stepped
     requires { ⌜ (channel .gathered ≤ 240) × (header .sc < 16) × (length (now twenty) ≡ 20) ⌝ }
     ensures { λ r. ⌜ toldStep r ≡ afterJoining (paste (channel .bytes) (channel .gathered) (now (twenty .entry)) 20) (channel .gathered + 20) (header .lf) ((header .sc + 1) % 16) ⌝ }
 {
     let at = channel.gathered;
-    let n = at + DATA_IN_BLOCK;
+    let end = at + DATA_IN_BLOCK;
     let next = (header.sc + 1) % 16;
-    let bytes = channel.bytes;
-    let bytes = join(bytes, at, twenty);
+    let mut bytes = channel.bytes;
+    bytes::copy(twenty, &mut bytes[at..]);
     if header.lf {
-        let answer = layer4::read(&bytes[..n]);
+        let answer = layer4::read(&bytes[..end]);
         let channel = Channel {
             bytes,
             gathered: 0,
@@ -97,7 +97,7 @@ pub(crate) fn join_on(channel: Channel, header: BlockHeader, twenty: &[u8]) -> S
     } else {
         let channel = Channel {
             bytes,
-            gathered: n,
+            gathered: end,
             phase: Phase::Gathering,
             expected: next,
         };
@@ -106,13 +106,4 @@ pub(crate) fn join_on(channel: Channel, header: BlockHeader, twenty: &[u8]) -> S
             channel,
         }
     }
-}
-
-fn join(bytes: [u8; MOST_GATHERED], at: usize, twenty: &[u8]) -> [u8; MOST_GATHERED]
-    requires { ⌜ (at ≤ 240) × (length (now twenty) ≡ 20) ⌝ }
-    ensures { λ r. ⌜ r ≡ paste bytes at (now (twenty .entry)) 20 ⌝ }
-{
-    let mut joined = bytes;
-    bytes::copy(twenty, &mut joined[at..]);
-    joined
 }
