@@ -8,13 +8,18 @@ use lib.Dec.{eqb, ltb}
 use lib.ListN.{length, drop}
 use lib.Seq.{paste}
 use Rattle.answers.specs.Rules.{unless}
+use Rattle.header.specs.Header.{total, holds}
 use Rattle.channel.specs.Answers.{refused, ChannelAfter, channelAfter}
-use Rattle.channel.specs.Layer3.{headerOf, Reads}
+use Rattle.channel.specs.Layer3.{layer3, headerOf, siLchOf, lfOf, scOf}
 use Rattle.channel.specs.State.{keepsRule, isWaiting, asWaiting, afterJoining, stepOf}
 use Rattle.channel.specs.declared.Channel.{Channel}
 use Rattle.channel.specs.declared.layer3.BlockHeader.{BlockHeader}
 
-module _ (c : Channel) (information : List ℕ) (b : BlockHeader) (rule : keepsRule c ≡ true) (long : length information ≡ 22) (is : Reads b (headerOf information)) where
+-- a header as it was read from h
+abbrev ReadFrom : BlockHeader → ℕ → Type 0
+ReadFrom b h = (b .«si_lch» ≡ siLchOf h) × (b .lf ≡ lfOf h) × (b .sc ≡ scOf h) × (b .sc < 16) × (b .checked ≡ holds (total layer3) h)
+
+module _ (c : Channel) (information : List ℕ) (b : BlockHeader) (rule : keepsRule c ≡ true) (long : length information ≡ 22) (is : ReadFrom b (headerOf information)) where
   abbrev left : Channel
   left = asWaiting c (b .lf) (b .sc)
 

@@ -1,12 +1,10 @@
 -- Document 01, "Layer 3 header, 16 bits": SI/LCh 4 bits, equal to A hex; DI 1; LF 1; SC 4; check 6.
 -- The twenty data bytes start at the third byte of the information. Assumes nothing.
-use Prim.Native.Nat.{ℕ, _<_}
-use mathlib.Core.Path.{_≡_}
+use Prim.Native.Nat.{ℕ}
 use mathlib.Core.Bool.{Bool}
 use mathlib.Core.List.{List, [], _∷_}
 use lib.ListN.{take}
-use Rattle.header.specs.Header.{total, field, flag, holds, headerFrom}
-use Rattle.channel.specs.declared.layer3.BlockHeader.{BlockHeader}
+use Rattle.header.specs.Header.{field, flag, headerFrom}
 
 abbrev pub layer3 : List ℕ
 layer3 = 4 ∷ 1 ∷ 1 ∷ 4 ∷ []
@@ -23,9 +21,3 @@ lfOf h = flag layer3 2 h
 
 abbrev pub scOf : ℕ → ℕ
 scOf h = field layer3 3 h
-
--- What a private function owes; no public promise cites it.
-
--- a header b as it was read from h
-abbrev pub Reads : BlockHeader → ℕ → Type 0
-Reads b h = (b .«si_lch» ≡ siLchOf h) × (b .lf ≡ lfOf h) × (b .sc ≡ scOf h) × (b .sc < 16) × (b .checked ≡ holds (total layer3) h)

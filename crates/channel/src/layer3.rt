@@ -1,7 +1,9 @@
 // Layer 3: the header of an information block.
-ghost use Prim.Native.Nat.{_≤_};
+ghost use mathlib.Core.Path.{_≡_};
+ghost use Prim.Native.Nat.{_<_, _≤_};
 ghost use lib.ListN.{length};
-ghost use Rattle.channel.specs.Layer3.{headerOf, Reads};
+ghost use Rattle.header.specs.Header.{total, holds};
+ghost use Rattle.channel.specs.Layer3.{layer3, headerOf, siLchOf, lfOf, scOf};
 
 // The fields of a block's header but for DI, which may be either, and whether its check is right.
 pub struct BlockHeader {
@@ -14,7 +16,7 @@ pub struct BlockHeader {
 // Reads the header of a block.
 pub(crate) fn read(information: &[u8]) -> BlockHeader
     requires { ⌜ 2 ≤ length (now information) ⌝ }
-    ensures { λ r. ⌜ Reads r (headerOf (now (information .entry))) ⌝ }
+    ensures { λ r. ⌜ (let h = headerOf (now (information .entry)) in (r .«si_lch» ≡ siLchOf h) × (r .lf ≡ lfOf h) × (r .sc ≡ scOf h) × (r .sc < 16) × (r .checked ≡ holds (total layer3) h)) ⌝ }
 {
     let h = crate::header_from(&information[..2]);
     let fields = h / 64;

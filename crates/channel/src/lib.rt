@@ -4,9 +4,9 @@ ghost use mathlib.Core.Bool.{true};
 ghost use mathlib.Core.Path.{_≡_};
 ghost use Prim.Native.Nat.{_*_, _<_, _≤_, _^_};
 ghost use lib.ListN.{length};
-ghost use Rattle.header.specs.Header.{headerFrom};
+ghost use Rattle.header.specs.Header.{total, holds, headerFrom};
 ghost use Rattle.channel.specs.Answers.{toldStep};
-ghost use Rattle.channel.specs.Layer3.{headerOf, Reads};
+ghost use Rattle.channel.specs.Layer3.{layer3, headerOf, siLchOf, lfOf, scOf};
 ghost use Rattle.channel.specs.Layer4.{sizeOf, blocksFor};
 ghost use Rattle.channel.specs.State.{fresh, keepsRule, stepOf};
 
@@ -118,7 +118,7 @@ impl Channel {
     // own tests say (6, 4, 14, 7, or the message). A function of its own, since in one with `step` the compiler copies the
     // bytes once more.
     fn advance(self, header: BlockHeader, information: &[u8]) -> Stepped
-        requires { ⌜ (keepsRule self ≡ true) × (length (now information) ≡ 22) × Reads header (headerOf (now information)) × (header .«si_lch» ≡ 10) × (header .checked ≡ true) ⌝ }
+        requires { ⌜ (keepsRule self ≡ true) × (length (now information) ≡ 22) × (let h = headerOf (now information) in (header .«si_lch» ≡ siLchOf h) × (header .lf ≡ lfOf h) × (header .sc ≡ scOf h) × (header .sc < 16) × (header .checked ≡ holds (total layer3) h)) × (header .«si_lch» ≡ 10) × (header .checked ≡ true) ⌝ }
         ensures { λ r. ⌜ toldStep r ≡ stepOf self (now (information .entry)) ⌝ }
     {
         let phase = self.phase;
