@@ -76,7 +76,11 @@ fn answer_in(line: &[u8], given: &mut [u8], lent: &mut [u8]) -> bool {
     let n = rooms::within(arguments::count(&numbers, GIVEN), given);
     let m = rooms::within(arguments::count(&numbers, LENT), lent);
     call(command, &numbers, &given[..n], &mut lent[..m]);
-    io::write_all(STDOUT_FILENO, b"\n")
+    let written = io::write_all(STDOUT_FILENO, b"\n");
+    if !written {
+        io::write_all(STDERR_FILENO, b"probe: standard output cannot be written\n");
+    }
+    written
 }
 
 // Takes a byte of the input. A line that is too long fills its room.
