@@ -66,6 +66,7 @@ pub fn to_channel(kilohertz: Kilohertz) -> ChannelAnswer
     if is_frequency(frequency) {
         return numbered((frequency - 87500) / 100);
     }
+    // 0 is no channel, and refused with 11.
     numbered(0)
 }
 
