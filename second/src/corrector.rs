@@ -111,8 +111,9 @@ pub fn is_code_word(row: &[bool]) -> bool {
     row.len() == POSITIONS && is_multiple(row, &PARITY)
 }
 
-/// The code word within eight places of a row of 272 bits, and how many places were changed.
-pub fn nearest_word(received: &[bool]) -> Option<(Row, usize)> {
+/// The code word within eight places of a row of 272 bits, and the places that were changed, the
+/// lowest first.
+pub fn nearest_word(received: &[bool]) -> Option<(Row, Vec<usize>)> {
     let algebra = algebra();
     let places = algebra.places(&algebra.locator(algebra.syndromes(received)));
     let mut row = received.to_vec();
@@ -122,5 +123,5 @@ pub fn nearest_word(received: &[bool]) -> Option<(Row, usize)> {
     if places.len() > MOST_CHANGES || !is_code_word(&row) {
         return None;
     }
-    Some((row, places.len()))
+    Some((row, places))
 }

@@ -1,5 +1,6 @@
 //! The probe's notation (docs/PROBE.md): arguments read from a line, and fields put into one.
 
+use crate::block::Changes;
 use crate::channel::{Channel, Phase};
 use crate::group::{Group, Incoming};
 use crate::message::LARGEST_MESSAGE;
@@ -219,9 +220,20 @@ impl Line {
         self
     }
 
+    /// The count and the five words of the row.
+    pub fn changes(self, changes: &Changes) -> Line {
+        let counted = self.count(changes.count);
+        let words = changes.row.iter();
+        words.fold(counted, |line, word| line.sixteen_digits(*word))
+    }
+
+    fn sixteen_digits(self, bits: u64) -> Line {
+        self.text(&format!("{bits:016x}"))
+    }
+
     /// The bits as they stand: what an argument needs, also for one that is no number.
     pub fn binary64_bits(self, number: f64) -> Line {
-        self.text(&format!("{:016x}", number.to_bits()))
+        self.sixteen_digits(number.to_bits())
     }
 
     fn binary64(self, number: f64) -> Line {

@@ -2,7 +2,7 @@
 //! be read.
 
 use crate::answers::{BAD_LINE, OUTSIDE_RULE};
-use crate::block;
+use crate::block::{self, Changes, Refusal};
 use crate::channel::{Channel, Step};
 use crate::group::{Group, Join};
 use crate::message::{self, Fill, MessageHeader};
@@ -53,7 +53,7 @@ fn correct(arguments: &mut Arguments) -> Option<Line> {
     let mut output = arguments.bytes()?;
     arguments.end()?;
     let result = block::correct(&received, &mut output);
-    Some(counted("word", result).bytes(&output))
+    Some(corrected("word", result).bytes(&output))
 }
 
 fn read_block(arguments: &mut Arguments) -> Option<Line> {
@@ -61,13 +61,13 @@ fn read_block(arguments: &mut Arguments) -> Option<Line> {
     let mut output = arguments.bytes()?;
     arguments.end()?;
     let result = block::read_block(&received, &mut output);
-    Some(counted("information", result).bytes(&output))
+    Some(corrected("information", result).bytes(&output))
 }
 
-fn counted(success: &str, result: Result<usize, block::Refusal>) -> Line {
+fn corrected(success: &str, result: Result<Changes, Refusal>) -> Line {
     match result {
-        Ok(count) => Line::new(success).count(count),
-        Err((answer, count)) => Line::refused(answer).count(count),
+        Ok(changes) => Line::new(success).changes(&changes),
+        Err((answer, changes)) => Line::refused(answer).changes(&changes),
     }
 }
 

@@ -55,7 +55,7 @@ impl Sums {
             .collect()
     }
 
-    pub fn nearest_word(&self, received: &[bool]) -> Option<(Row, usize)> {
+    pub fn nearest_word(&self, received: &[bool]) -> Option<(Row, Vec<usize>)> {
         let failing: Vec<bool> = (0..LONG_POSITIONS)
             .map(|sum| self.fails(sum, received))
             .collect();
@@ -73,7 +73,9 @@ impl Sums {
         for position in &search.changed {
             row[*position] ^= true;
         }
-        is_code_word(&row).then_some((row, search.changed.len()))
+        // They came in the order in which the sums failed.
+        search.changed.sort_unstable();
+        is_code_word(&row).then_some((row, search.changed))
     }
 }
 

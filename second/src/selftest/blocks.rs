@@ -135,7 +135,7 @@ fn expect_put_right(word: &Row, wrong: &[usize]) -> Outcome {
     let mut row = word.clone();
     flip(&mut row, wrong);
     expect(
-        nearest_word(&row) == Some((word.clone(), wrong.len())),
+        nearest_word(&row) == Some((word.clone(), positions(wrong))),
         || format!("{wrong:?}"),
     )
 }
@@ -278,7 +278,11 @@ pub fn published() -> Outcome {
     )?;
     expect_equal(&block[..], &to_block(&row(&sent))[..], "block")?;
     let mut output = [0; block::INFORMATION_BYTES];
-    expect_equal(block::read_block(&block, &mut output), Ok(0), "read")?;
+    expect_equal(
+        block::read_block(&block, &mut output),
+        Ok(block::Changes::default()),
+        "read",
+    )?;
     expect_equal(&output[..], &information[..], "information")
 }
 
