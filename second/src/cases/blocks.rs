@@ -6,7 +6,7 @@ use crate::block::{self, BLOCK_BYTES, INFORMATION_BYTES};
 use crate::corrector::POSITIONS;
 use crate::notation::{Line, LONGEST_ARGUMENT};
 use crate::random::Random;
-use crate::rows::{from_block, to_block, with_remainder, Row, CHECK, PARITY};
+use crate::rows::{from_block, to_block, Row, PARITY};
 
 const LENGTHS: [usize; 13] = [
     0,
@@ -24,6 +24,9 @@ const LENGTHS: [usize; 13] = [
     LONGEST_ARGUMENT,
 ];
 const MOST_WRONG: usize = 12;
+
+/// The first and the last place of each word of the row, the last word having sixteen.
+const WORD_EDGES: [usize; 10] = [0, 63, 64, 127, 128, 191, 192, 255, 256, 271];
 
 /// The block of 000, clause 11.1, in document 01's form.
 const PUBLISHED: &[u8; INFORMATION_BYTES] = b"\x02\x00\x01\x027 PROJECT MAINMENU";
@@ -55,8 +58,8 @@ fn with_wrong_places(random: &Random, mut row: Row, count: usize) -> Row {
 }
 
 pub fn correct(random: &Random, index: usize) -> Vec<Case> {
-    let round = index / 16;
-    let row = match index % 16 {
+    let round = index / 17;
+    let row = match index % 17 {
         kind @ 0..=3 => on_random_word(random, (4 * round + kind) % (MOST_WRONG + 1)),
         4 => random.bits(POSITIONS),
         5 => beside_left_off_place(random, round % 9),
@@ -72,6 +75,7 @@ pub fn correct(random: &Random, index: usize) -> Vec<Case> {
         12 => plain_row(random, round),
         13 => return wrong_lengths(random, "correct", (BLOCK_BYTES, BLOCK_BYTES)),
         14 => at_the_ends(random),
+        15 => at_word_edges(random, random_word(random)),
         _ => on_random_word(random, 8 + round % 2),
     };
     case("correct", &to_block(&row), &random.marked(BLOCK_BYTES))
@@ -164,12 +168,24 @@ fn at_the_ends(random: &Random) -> Row {
     row
 }
 
+/// Wrong places at the edges of the words in which the changed places are told.
+fn at_word_edges(random: &Random, mut row: Row) -> Row {
+    let count = random.between(1, WORD_EDGES.len());
+    for edge in random.some_below(count, WORD_EDGES.len()) {
+        row[WORD_EDGES[edge]] ^= true;
+    }
+    row
+}
+
 pub fn read_block(random: &Random, index: usize) -> Vec<Case> {
-    let round = index / 12;
-    let row = match index % 12 {
+    let round = index / 14;
+    let row = match index % 14 {
         kind @ 0..=3 => on_written_block(random, (4 * round + kind) % (MOST_WRONG + 1)),
         4 | 5 => on_random_word(random, round % 9),
-        6 => with_one_check_bit_wrong(random, round),
+        6 => {
+            let wrong = random.between(0, 8);
+            with_wrong_places(random, word_with_wrong_check(random, round), wrong)
+        }
         7 => random.bits(POSITIONS),
         8 => return wrong_lengths(random, "read-block", (BLOCK_BYTES, INFORMATION_BYTES)),
         9 => {
@@ -182,6 +198,8 @@ pub fn read_block(random: &Random, index: usize) -> Vec<Case> {
             let wrong = random.between(0, 9);
             with_wrong_places(random, written_block(PUBLISHED), wrong)
         }
+        11 => at_word_edges(random, written_block(&random.bytes(INFORMATION_BYTES))),
+        12 => at_word_edges(random, word_with_wrong_check(random, round)),
         _ => beside_left_off_place(random, round % 9),
     };
     case(
@@ -200,15 +218,6 @@ fn written_block(information: &[u8]) -> Row {
 fn on_written_block(random: &Random, wrong: usize) -> Row {
     let row = written_block(&random.bytes(INFORMATION_BYTES));
     with_wrong_places(random, row, wrong)
-}
-
-/// A code word all the same: the parity is reckoned after the check bit was turned.
-fn with_one_check_bit_wrong(random: &Random, round: usize) -> Row {
-    let information = from_block(&random.bytes(INFORMATION_BYTES));
-    let mut checked = with_remainder(&information, &CHECK);
-    checked[information.len() + round % CHECK[0]] ^= true;
-    let wrong = random.between(0, 8);
-    with_wrong_places(random, with_remainder(&checked, &PARITY), wrong)
 }
 
 pub fn write_block(random: &Random, index: usize) -> Vec<Case> {

@@ -5,7 +5,7 @@
 
 use crate::corrector::{LONG_POSITIONS, POSITIONS};
 use crate::random::Random;
-use crate::rows::{with_remainder, Row, PARITY};
+use crate::rows::{with_remainder, Row, CHECK, PARITY};
 
 /// Document 01's residues. Five times them is a parity sum of this generator (`selftest` looks).
 const RESIDUES: [usize; 17] = [
@@ -78,6 +78,14 @@ pub fn flip(row: &mut Row, powers: &[usize]) {
 
 pub fn random_word(random: &Random) -> Row {
     with_remainder(&random.bits(190), &PARITY)
+}
+
+/// One check bit is wrong. A code word all the same: the parity is reckoned after it was turned.
+pub fn word_with_wrong_check(random: &Random, check_bit: usize) -> Row {
+    let information = random.bits(176);
+    let mut checked = with_remainder(&information, &CHECK);
+    checked[information.len() + check_bit % CHECK[0]] ^= true;
+    with_remainder(&checked, &PARITY)
 }
 
 /// A word of the longer code with a one in the left-off place, without that place.
