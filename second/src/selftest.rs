@@ -9,7 +9,7 @@ mod survey;
 /// Nothing, or what was found wrong.
 type Outcome = Result<(), String>;
 
-const TESTS: [(&str, fn() -> Outcome); 17] = [
+const TESTS: [(&str, fn() -> Outcome); 18] = [
     ("the field multiplies as polynomials do", blocks::field),
     ("the generator has seventeen roots in a row", blocks::roots),
     (
@@ -23,6 +23,10 @@ const TESTS: [(&str, fn() -> Outcome); 17] = [
     (
         "up to eight wrong places are put right",
         blocks::few_wrong_places,
+    ),
+    (
+        "the row of changed places leads to the word",
+        blocks::changed_places,
     ),
     ("the corrector agrees with a search", blocks::search),
     ("patterns that fool a vote are refused", blocks::votes),

@@ -5,7 +5,8 @@ use crate::block;
 use crate::cases;
 use crate::cases::patterns::*;
 use crate::corrector::*;
-use crate::notation::Arguments;
+use crate::notation::{Arguments, Line};
+use crate::probe::answer;
 use crate::random::Random;
 use crate::rows::*;
 use crate::search::Sums;
@@ -156,6 +157,63 @@ pub fn few_wrong_places() -> Outcome {
         expect_put_right(&word, &random.some_below(3 + round % 6, POSITIONS))?;
     }
     Ok(())
+}
+
+/// None to nine wrong places, on words with right and with wrong check bits.
+pub fn changed_places() -> Outcome {
+    let random = random();
+    for round in 0..2_000 {
+        let wrong = random.some_below(round % 10, POSITIONS);
+        let word = with_remainder(&with_remainder(&random.bits(176), &CHECK), &PARITY);
+        expect_told("correct", "word", &word, &wrong)?;
+        expect_told("read-block", "information", &word, &wrong)?;
+        let word = word_with_wrong_check(&random, round);
+        expect_told("read-block", "3", &word, &wrong)?;
+    }
+    Ok(())
+}
+
+/// The row in the answer leads from the received bytes to those of the word. Nine places from one
+/// there is no word within eight, and the row leads nowhere.
+fn expect_told(command: &str, name: &str, word: &Row, wrong: &[usize]) -> Outcome {
+    let mut received = word.clone();
+    flip(&mut received, wrong);
+    let (name, reached) = match wrong.len() {
+        9 => ("2", &received),
+        _ => (name, word),
+    };
+    let (start, row) = told(command, &to_block(&received));
+    let turned: Vec<u8> = to_block(&received)
+        .iter()
+        .zip(&row)
+        .map(|(byte, turn)| byte ^ turn)
+        .collect();
+    expect_equal(turned, to_block(reached), command)?;
+    expect_equal(&row[block::BLOCK_BYTES..], &[0; 6], "behind the last place")?;
+    let ones: u32 = row.iter().map(|byte| byte.count_ones()).sum();
+    expect_equal(start, format!("{name} {ones}"), command)
+}
+
+/// The first two fields of an answer, and the bytes of its row.
+fn told(command: &str, received: &[u8]) -> (String, Vec<u8>) {
+    let lent = match command {
+        "correct" => block::BLOCK_BYTES,
+        _ => block::INFORMATION_BYTES,
+    };
+    let case = Line::new(command).bytes(received).bytes(&vec![0; lent]);
+    let answer = answer(&case.done());
+    let fields: Vec<&[u8]> = answer.split(|byte| *byte == b'\t').collect();
+    let start = fields[..2].join(&b' ');
+    let row = bytes_of_row(&fields[2..fields.len() - 1]);
+    (String::from_utf8_lossy(&start).into_owned(), row)
+}
+
+/// The words read as bytes instead of as numbers: the lowest byte of each stands last.
+fn bytes_of_row(words: &[&[u8]]) -> Vec<u8> {
+    let mut words = Arguments::new(words);
+    std::iter::from_fn(|| words.bytes())
+        .flat_map(|word| word.into_iter().rev())
+        .collect()
 }
 
 /// On the cases the generator makes, the adversarial ones among them, and on more of eight to
