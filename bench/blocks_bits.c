@@ -1,5 +1,6 @@
 // Corrector and block reader in C the way the proved ones go: a byte for each bit, the 273 parity sums once, then a vote
-// at each place; the word is divided by the generator, and the changes are counted. The check is made bit by bit.
+// at each place; the word is divided by the generator, and the changes are put into words and counted there. The check is
+// made bit by bit.
 #include "blocks.h"
 
 // The generator's powers below 82.
@@ -18,8 +19,9 @@ static int is_word(const u8 *word) {
     return 1;
 }
 
-static int correct(const u8 *received, u8 *out) {
+static int correct(const u8 *received, u8 *out, u64 *changes) {
     u8 row[CIRCLE], odd[CIRCLE], word[PLACES];
+    u64 turned[WORDS] = {0};
     if (!low[81])
         for (unsigned k = 0; k < sizeof power / sizeof *power; k++) low[81 - power[k]] = 1;
     for (int p = 0; p < PLACES; p++) row[p] = received[p / 8] >> p % 8 & 1;
@@ -28,14 +30,16 @@ static int correct(const u8 *received, u8 *out) {
         odd[t] = 0;
         for (int k = 0; k < CHECKS; k++) odd[t] ^= row[(t + check[k]) % CIRCLE];
     }
-    int changed = 0;
     for (int p = 0; p < PLACES; p++) {
         int votes = 0;
         for (int k = 0; k < CHECKS; k++) votes += odd[(p + CIRCLE - check[k]) % CIRCLE];
         word[p] = row[p] ^ (9 <= votes);
-        changed += 9 <= votes;
+        turned[p / 64] |= (u64)(9 <= votes) << p % 64;
     }
+    int changed = 0;
+    for (int j = 0; j < WORDS; j++) changed += __builtin_popcountll(turned[j]);
     if (!is_word(word) || MOST < changed) return -1;
+    for (int j = 0; j < WORDS; j++) changes[j] = turned[j];
     for (int i = 0; i < BYTES; i++) {
         out[i] = 0;
         for (int j = 0; j < 8; j++) out[i] |= word[8 * i + j] << j;

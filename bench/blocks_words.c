@@ -3,7 +3,6 @@
 // are even. The check is made by a table, a byte at a time.
 #include "blocks.h"
 
-enum { WORDS = 5 };
 typedef struct { u64 w[WORDS]; } Row;
 // A row of the circle, written twice, so that a rotation is a shift.
 typedef struct { u64 w[10]; } Twice;
@@ -75,7 +74,7 @@ static inline Row votes(Row odd) {
     return flip;
 }
 
-static int correct(const u8 *received, u8 *out) {
+static int correct(const u8 *received, u8 *out, u64 *changes) {
     Row row = {{0}};
     for (int i = 0; i < BYTES; i++) row.w[i / 8] |= (u64)received[i] << 8 * (i % 8);
     Row flip = votes(sums(row));
@@ -87,6 +86,7 @@ static int correct(const u8 *received, u8 *out) {
     if (MOST < changed) return -1;
     Row odd = sums(row);
     if (odd.w[0] | odd.w[1] | odd.w[2] | odd.w[3] | odd.w[4]) return -1;
+    for (int j = 0; j < WORDS; j++) changes[j] = flip.w[j];
     for (int i = 0; i < BYTES; i++) out[i] = row.w[i / 8] >> 8 * (i % 8);
     return changed;
 }
