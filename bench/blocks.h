@@ -21,7 +21,8 @@ static void take(char task, const u8 *block) {
     u64 changes[WORDS] = {0};
     int count = correct(block, word, changes);
     add_number(count < 0 ? 0 : count);
-    for (int j = 0; j < WORDS; j++) add_number(changes[j]);
+    // Both halves of each word: a sum takes in 32 bits at a time.
+    for (int j = 0; j < WORDS; j++) add_number(changes[j] % 4294967296), add_number(changes[j] >> 32);
     if (count < 0) add_number(NO_CODE_WORD);
     else if (task == 'r' && !check_holds(word)) add_number(CHECK_BITS);
     else add_bytes(word, task == 'r' ? INFORMATION : BYTES);

@@ -34,9 +34,9 @@ static int correct(const u8 *received, u8 *out, u64 *changes) {
         int votes = 0;
         for (int k = 0; k < CHECKS; k++) votes += odd[(p + CIRCLE - check[k]) % CIRCLE];
         word[p] = row[p] ^ (9 <= votes);
-        turned[p / 64] |= (u64)(9 <= votes) << p % 64;
     }
     int changed = 0;
+    for (int p = 0; p < PLACES; p++) turned[p / 64] |= (u64)(row[p] ^ word[p]) << p % 64;
     for (int j = 0; j < WORDS; j++) changed += __builtin_popcountll(turned[j]);
     if (!is_word(word) || MOST < changed) return -1;
     for (int j = 0; j < WORDS; j++) changes[j] = turned[j];

@@ -13,7 +13,7 @@ use Rattle.code.specs.Code.{generator}
 use Rattle.code.proofs.Computed.{generator-length}
 use Rattle.block.specs.Bytes.{rowOf}
 use Rattle.block.specs.Blocks.{checkDivisor, CheckRight, blockRow}
-use Rattle.block.proofs.Bytes.{length-rowOf}
+use Rattle.block.proofs.Bytes.{length-bitsOf}
 use Rattle.block.proofs.Checks.{check-length}
 
 pub length-systematic : (low info : List Bool) → length (systematic low info) ≡ length info + length low
@@ -85,7 +85,7 @@ module _ (info : List ℕ) (row low gen : List Bool) (l : length info ≡ 22) (u
       unpacked ∙ ap (λ (n : ℕ). rowOf info ++ drop n (replicate 272 false)) cut ∙ ap (λ (n : ℕ). rowOf info ++ replicate n false) left
 
   info-length : length (rowOf info) ≡ 176
-  info-length = length-rowOf info ∙ omega arith
+  info-length = length-bitsOf 8 info ∙ omega arith
 
   pub check-room : (176 + length low ≤ 272) × (take (176 + length low) row ≡ take 176 row ++ replicate (length low) false)
   check-room = (omega (arith, fourteen), padded-zeros row (rowOf info) 176 (length low) 82 info-row info-length)

@@ -10,34 +10,38 @@ use lib.Pow.{areBytes}
 use Rattle.answers.specs.Numbers.{paper}
 use Rattle.answers.specs.declared.Answer.{Answer}
 use Rattle.answers.proofs.Determined.{paper-once}
-use Rattle.code.specs.Code.{distance}
+use Rattle.code.specs.Code.{difference, ones}
 use Rattle.code.proofs.Majority.{only-word}
 use Rattle.block.specs.declared.Corrected.{Corrected}
 use Rattle.block.specs.Bytes.{rowOf}
 use Rattle.block.specs.Corrector.{Near, WrongLength, NoCodeWord, Corrects}
 use Rattle.block.specs.Blocks.{CheckRight, Reads, Writes}
-use Rattle.block.proofs.Bytes.{row-once, length-rowOf}
+use Rattle.block.proofs.Bytes.{row-once, length-bitsOf}
+use Rattle.block.proofs.Words.{words-once}
 
--- what is returned is an answer and a count
-returned : (r s : Corrected) → paper (r .answer) ≡ paper (s .answer) → r .count ≡ s .count → r ≡ s
-returned r s p count = let answer = paper-once (r .answer) (s .answer) p in λ i. record { answer = answer i; count = count i }
+-- what is returned is an answer, a count and a row
+returned : (r s : Corrected) → paper (r .answer) ≡ paper (s .answer) → (r .count ≡ s .count) × (r .changed ≡ s .changed) → r ≡ s
+returned r s p e = let answer = paper-once (r .answer) (s .answer) p in λ i. record { answer = answer i; count = e .0 i; changed = e .1 i }
 
 -- what the corrector and the block reader refuse alike, and what they found
 module _ (room : ℕ) (received before : List ℕ) (r s : Corrected) (x y : List ℕ) where
-  same-length : WrongLength room received before x (r .answer) (r .count) → WrongLength room received before y (s .answer) (s .count) → (r ≡ s) × (x ≡ y)
-  same-length u v = (returned r s (u .answers ∙ sym (v .answers)) (u .counts ∙ sym (v .counts)), u .same ∙ sym (v .same))
+  same-length : WrongLength room received before x r → WrongLength room received before y s → (r ≡ s) × (x ≡ y)
+  same-length u v = (returned r s (u .answers ∙ sym (v .answers)) (u .counts ∙ sym (v .counts), u .places ∙ sym (v .places)), u .same ∙ sym (v .same))
 
-  same-none : NoCodeWord room received before x (r .answer) (r .count) → NoCodeWord room received before y (s .answer) (s .count) → (r ≡ s) × (x ≡ y)
-  same-none u v = (returned r s (u .answers ∙ sym (v .answers)) (u .counts ∙ sym (v .counts)), u .same ∙ sym (v .same))
+  same-none : NoCodeWord room received before x r → NoCodeWord room received before y s → (r ≡ s) × (x ≡ y)
+  same-none u v = (returned r s (u .answers ∙ sym (v .answers)) (u .counts ∙ sym (v .counts), u .places ∙ sym (v .places)), u .same ∙ sym (v .same))
 
-found-once : (received : List ℕ) {u v : List Bool} {m n : ℕ} → length received ≡ 34 → Near (rowOf received) u m → Near (rowOf received) v n → (u ≡ v) × (m ≡ n)
-found-once received {u} {v} l p q =
-    let word : u ≡ v = only-word (rowOf received) u v (omega (arith, length-rowOf received)) (p .code) (q .code) (p .near) (q .near) in
-    (word, p .counts ∙ ap (distance (rowOf received)) word ∙ sym (q .counts))
+-- a code word within eight places is the only one, and so are the places and their number
+pub found-once : (received : List ℕ) {u v : List Bool} {m n : ℕ} {xs ys : List ℕ} → length received ≡ 34 → Near (rowOf received) u m xs → Near (rowOf received) v n ys
+    → (u ≡ v) × ((m ≡ n) × (xs ≡ ys))
+found-once received {u} {v} {m} {n} {xs} {ys} l p q =
+    let word : u ≡ v = only-word (rowOf received) u v (omega (arith, length-bitsOf 8 received)) (p .code) (q .code) (p .near) (q .near) in
+    let row : difference (rowOf received) u ≡ difference (rowOf received) v = ap (difference (rowOf received)) word in
+    (word, (p .counts ∙ ap ones row ∙ sym (q .counts), words-once xs ys (p .words) (q .words) (p .places ∙ row ∙ sym (q .places))))
 
 module _ (received before : List ℕ) (r s : Corrected) (x y : List ℕ) (bx : areBytes x ≡ true) (by : areBytes y ≡ true) where
   -- `correct`
-  pub correct-once : Corrects received before x (r .answer) (r .count) → Corrects received before y (s .answer) (s .count) → (r ≡ s) × (x ≡ y)
+  pub correct-once : Corrects received before x r → Corrects received before y s → (r ≡ s) × (x ≡ y)
   correct-once (inl u) (inl v) = same-length 34 received before r s x y u v
   correct-once (inl u) (inr (inl v)) = absurd (u .wrong (v .sized))
   correct-once (inl u) (inr (inr v)) = absurd (u .wrong (v .sized))
@@ -51,7 +55,7 @@ module _ (received before : List ℕ) (r s : Corrected) (x y : List ℕ) (bx : a
       (returned r s (u .answers ∙ sym (v .answers)) (once .1), row-once x y bx by (u .long ∙ sym (v .long)) (u .written ∙ once .0 ∙ sym (v .written)))
 
   -- `read_block`
-  pub read-block-once : Reads received before x (r .answer) (r .count) → Reads received before y (s .answer) (s .count) → (r ≡ s) × (x ≡ y)
+  pub read-block-once : Reads received before x r → Reads received before y s → (r ≡ s) × (x ≡ y)
   read-block-once (inl u) (inl v) = same-length 22 received before r s x y u v
   read-block-once (inl u) (inr (inl v)) = absurd (u .wrong (v .sized))
   read-block-once (inl u) (inr (inr (inl v))) = absurd (u .wrong (v .sized))

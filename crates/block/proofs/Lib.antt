@@ -1,7 +1,9 @@
 pub mod Bytes
+pub mod Words
 pub mod Checks
 pub mod Turns
 pub mod Outcomes
 pub mod Blocks
 pub mod RoundTrip
+pub mod Changed
 pub mod Determined

@@ -7,36 +7,46 @@ use mathlib.Core.List.{List, _++_, append-nil}
 use Prim.Native.Nat.{ℕ, _*_, _≤_}
 use native.Mathlib.Omega.{arith}
 use lib.ListN.{length, drop, replicate, length-replicate, drop-of-length-le}
-use Rattle.answers.specs.declared.Answer.{Answer}
-use Rattle.answers.specs.Numbers.{refused, paper}
 use Rattle.gf2.specs.Poly.{allZero, remainder}
-use Rattle.code.specs.Code.{generator, distance, mostCorrected}
+use Rattle.code.specs.Code.{generator, difference, ones, distance, mostCorrected}
 use Rattle.code.specs.Vote.{voted}
 use Rattle.code.proofs.Majority.{length-voted}
 use Rattle.code.proofs.Accepted.{code-tested, accepts}
 use Rattle.block.specs.Bytes.{rowOf}
+use Rattle.block.specs.Words.{FiveWords, rowOfWords, zeroWords}
 use Rattle.block.specs.Nearest.{Searched}
-use Rattle.block.specs.Corrector.{NoneNear, Sized, WrongLength, NoCodeWord}
+use Rattle.block.specs.Corrector.{NoneNear, Sized}
 
 -- both tests of the search passed
 pub close : (code : Bool) (n : ℕ) → (code && leb n mostCorrected) ≡ true → n ≤ mostCorrected
 close code n t = leb-true n mostCorrected (and-eq-true-iff code (leb n mostCorrected) .0 t .1)
 
--- the search: the voted row is tested for a code word and for its distance
-module _ (row word : List Bool) (code : Bool) (l : length row ≡ 272) (voting : word ≡ voted row) (tested : code ≡ allZero (remainder generator 190 word)) where
-  pub no-word : (n : ℕ) → n ≡ distance row word → (code && leb n mostCorrected) ≡ false → Searched row false word 0
-  no-word n e f = record {
-    met = λ t. absurd (false≢true t);
-    missed = λ _ other w d.
-        let a = accepts row l .1 (other, w, d) in
-        let near : distance row word ≤ mostCorrected = subst (λ (x : List Bool). distance row x ≤ mostCorrected) (sym voting) (a .1) in
-        let close : n ≤ mostCorrected = omega arith in
-        false≢true (sym f ∙ rw (tested, voting, a .0, le-leb n mostCorrected close));
-  }
+-- the search: the voted row is tested for a code word and for the number of ones in its difference from the row
+module _ (row word : List Bool) (code : Bool) (changed : List ℕ) (n : ℕ) (l : length row ≡ 272) (voting : word ≡ voted row)
+    (tested : code ≡ allZero (remainder generator 190 word)) (words : FiveWords changed) (places : rowOfWords changed ≡ difference row word)
+    (counted : n ≡ ones (rowOfWords changed)) where
+  counts : n ≡ distance row word
+  counts = counted ∙ ap ones places
 
-  pub found : (n : ℕ) → n ≡ distance row word → (code && leb n mostCorrected) ≡ true → Searched row true word n
-  found n e t = record {
-    met = λ _. record { code = code-tested word (ap length voting ∙ length-voted row ∙ l) .0 (sym tested ∙ and-eq-true-iff code (leb n mostCorrected) .0 t .0); near = omega (arith, close code n t); counts = e };
+  pub no-word : (code && leb n mostCorrected) ≡ false → Searched row false word 0 zeroWords
+  no-word f = record { met = λ t. absurd (false≢true t); missed = λ _. (none, refl, refl) }
+    where
+      none : NoneNear row
+      none other w d =
+          let a = accepts row l .1 (other, w, d) in
+          let near : distance row word ≤ mostCorrected = subst (λ (x : List Bool). distance row x ≤ mostCorrected) (sym voting) (a .1) in
+          let close : n ≤ mostCorrected = omega (arith, counts) in
+          false≢true (sym f ∙ rw (tested, voting, a .0, le-leb n mostCorrected close))
+
+  pub found : (code && leb n mostCorrected) ≡ true → Searched row true word n changed
+  found t = record {
+    met = λ _. record {
+      code = code-tested word (ap length voting ∙ length-voted row ∙ l) .0 (sym tested ∙ and-eq-true-iff code (leb n mostCorrected) .0 t .0);
+      near = omega (arith, close code n t, counts);
+      words = words;
+      places = places;
+      counts = counts;
+    };
     missed = λ f. absurd (false≢true (sym f));
   }
 
@@ -54,12 +64,3 @@ sized-so bytes room given before h =
 pub not-sized : (bytes room : ℕ) (given before : List ℕ) → not (eqb (length given) bytes && eqb (length before) room) ≡ true → Sized bytes room given before → ⊥
 not-sized bytes room given before h z =
     false≢true (rw (eq-eqb (length given) bytes (z .input), eq-eqb (length before) room (z .output)) at h)
-
-pub wrong-length : (room : ℕ) (received before : List ℕ) (answer : Answer) (count : ℕ) → (Sized 34 room received before → ⊥)
-    → paper answer ≡ refused 1 → count ≡ 0 → WrongLength room received before before answer count
-wrong-length room received before answer count h a n = record { wrong = h; answers = a; counts = n; same = refl }
-
--- 2, where the search missed
-pub no-code-word : (room : ℕ) (received before : List ℕ) (answer : Answer) (count : ℕ) → Sized 34 room received before → NoneNear (rowOf received)
-    → paper answer ≡ refused 2 → count ≡ 0 → NoCodeWord room received before before answer count
-no-code-word room received before answer count sized none a n = record { sized = sized; none = none; answers = a; counts = n; same = refl }

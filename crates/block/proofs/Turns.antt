@@ -9,7 +9,6 @@ use lib.ListN.{length, getD, take, drop, drop-of-length-le, length-take}
 use Rattle.gf2.specs.Poly.{bit, _⊕_}
 use Rattle.gf2.proofs.Bits.{⊕-assoc, ⊕-false}
 use Rattle.gf2.proofs.Lists.{drop-one}
-use Rattle.code.specs.Code.{distance}
 use Rattle.code.specs.Vote.{parityOver, sumOver, checkPositions}
 use Rattle.code.proofs.Sums.{Below}
 use Rattle.code.proofs.Computed.{positions-below, positions-length}
@@ -42,18 +41,6 @@ module _ (f : ℕ → ℕ) (ss : List ℕ) (l n whole : ℕ) (inv : n + sumOver 
 
   pub sum-end : length ss ≤ l → n ≡ whole
   sum-end h = omega (arith, ap (sumOver f) (drop-of-length-le ss {i = l} h))
-
--- the distance of two rows
-module _ (row word : List Bool) (p n whole : ℕ) (inv : n + distance (drop p row) (drop p word) ≡ whole) where
-  pub distance-turn : (x : ℕ) → p < length row → p < length word → x ≡ bit (getD row p false ⊕ getD word p false)
-      → n + x + distance (drop (p + 1) row) (drop (p + 1) word) ≡ whole
-  distance-turn x hr hw e = omega (arith, split)
-    where
-      split : distance (drop p row) (drop p word) ≡ bit (getD row p false ⊕ getD word p false) + distance (drop (p + 1) row) (drop (p + 1) word)
-      split = λ i. distance (drop-one row p false hr i) (drop-one word p false hw i)
-
-  pub distance-end : length row ≤ p → n ≡ whole
-  distance-end h = omega (arith, ap (λ xs. distance xs (drop p word)) (drop-of-length-le row {i = p} h))
 
 -- the byte of eight places, from the last of them back
 pub byte-turn : (row : List Bool) (at j x v : ℕ) → 0 < j → j ≤ 8 → at + j ≤ length row → x ≡ bit (getD row (at + (j - 1)) false)

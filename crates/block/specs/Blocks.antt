@@ -9,6 +9,7 @@ use Rattle.answers.specs.declared.Answer.{Answer}
 use Rattle.answers.specs.Numbers.{accepted, refused, paper}
 use Rattle.gf2.specs.Poly.{lower, checkOf, systematic}
 use Rattle.code.specs.Code.{generator}
+use Rattle.block.specs.declared.Corrected.{Corrected}
 use Rattle.block.specs.Bytes.{rowOf}
 use Rattle.block.specs.Corrector.{Near, Sized, WrongLength, NoCodeWord}
 
@@ -24,29 +25,28 @@ CheckRight word = drop 176 (take 190 word) ≡ checkOf checkDivisor (take 176 wo
 abbrev pub blockRow : List Bool → List Bool
 blockRow information = systematic generator (systematic checkDivisor information)
 
--- 3: the code word's check bits are wrong; the corrected count is given, and the output as before
-pub record WrongCheck (received before after : List ℕ) (answer : Answer) (count : ℕ) : Type 0 where
+-- 3: the code word's check bits are wrong; the corrected count and the changed places are given, and the output as before
+pub record WrongCheck (received before after : List ℕ) (r : Corrected) : Type 0 where
   pub sized : Sized 34 22 received before
   pub word : List Bool
-  pub found : Near (rowOf received) word count
+  pub found : Near (rowOf received) word (r .count) (r .changed)
   pub wrong : CheckRight word → ⊥
-  pub answers : paper answer ≡ refused 3
+  pub answers : paper (r .answer) ≡ refused 3
   pub same : after ≡ before
 
--- accepted: the 22 information bytes, and the number of corrected bits
-pub record Information (received before after : List ℕ) (answer : Answer) (count : ℕ) : Type 0 where
+-- accepted: the 22 information bytes, the number of corrected bits and the changed places
+pub record Information (received before after : List ℕ) (r : Corrected) : Type 0 where
   pub sized : Sized 34 22 received before
   pub word : List Bool
-  pub found : Near (rowOf received) word count
+  pub found : Near (rowOf received) word (r .count) (r .changed)
   pub right : CheckRight word
-  pub answers : paper answer ≡ accepted
+  pub answers : paper (r .answer) ≡ accepted
   pub long : length after ≡ 22
   pub given : rowOf after ≡ take 176 word
 
-abbrev pub Reads : (received before after : List ℕ) (answer : Answer) (count : ℕ) → Type 0
-Reads received before after answer count =
-    WrongLength 22 received before after answer count
-    ⊎ (NoCodeWord 22 received before after answer count ⊎ (WrongCheck received before after answer count ⊎ Information received before after answer count))
+abbrev pub Reads : (received before after : List ℕ) (r : Corrected) → Type 0
+Reads received before after r =
+    WrongLength 22 received before after r ⊎ (NoCodeWord 22 received before after r ⊎ (WrongCheck received before after r ⊎ Information received before after r))
 
 -- 1: a length is wrong; the output as before
 pub record NotWritten (information before after : List ℕ) (answer : Answer) : Type 0 where

@@ -1,4 +1,4 @@
--- Document 01, "The block": 34 bytes and the 272 positions. Assumes nothing.
+-- Document 01, "The block": 34 bytes and the 272 positions, by a rule for numbers of any width. Assumes nothing.
 use mathlib.Core.Bool.{Bool}
 use mathlib.Core.List.{List, [], _∷_}
 use Prim.Native.Nat.{ℕ, _+_, _*_, _/_, _%_, _^_}
@@ -8,11 +8,19 @@ use Rattle.gf2.specs.Poly.{bit, rowFrom}
 
 -- the bit of weight 2^k
 unfoldable pub bitOf : ℕ → ℕ → Bool
-bitOf byte k = eqb (byte / 2 ^ k % 2) 1
+bitOf number k = eqb (number / 2 ^ k % 2) 1
+
+-- Of numbers of `width` bits, position p is the bit of weight 2^(p mod width) in number p / width.
+abbrev pub position : (width : ℕ) → List ℕ → ℕ → Bool
+position width numbers p = bitOf (getD numbers (p / width) 0) (p % width)
+
+-- all their positions, in one row
+unfoldable pub bitsOf : (width : ℕ) → List ℕ → List Bool
+bitsOf width numbers = rowFrom (position width numbers) 0 (width * length numbers)
 
 -- Position p is the bit of weight 2^(p mod 8) in byte p / 8.
-unfoldable pub rowOf : List ℕ → List Bool
-rowOf bytes = rowFrom (λ p. bitOf (getD bytes (p / 8) 0) (p % 8)) 0 (8 * length bytes)
+abbrev pub rowOf : List ℕ → List Bool
+rowOf bytes = bitsOf 8 bytes
 
 -- the number with these bits, lowest weight first
 abbrev pub byteOf : List Bool → ℕ

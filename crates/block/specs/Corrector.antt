@@ -1,21 +1,25 @@
 -- Document 01, "The block": what the corrector answers, over all code words. `WrongLength`, `NoCodeWord` and `Word` are its outcomes: when each is
--- given, the answer as the paper has it, the count, and every byte of the output. Assumes nothing.
+-- given, the answer as the paper has it, the count, the row of changed places (document 02, ticket 1), and every byte of the output. Assumes nothing.
 use mathlib.Core.Path.{_≡_}
 use mathlib.Core.Bool.{Bool}
 use mathlib.Core.List.{List}
 use mathlib.Core.Logic.{_⊎_}
 use Prim.Native.Nat.{ℕ, _≤_}
 use lib.ListN.{length}
-use Rattle.answers.specs.declared.Answer.{Answer}
 use Rattle.answers.specs.Numbers.{accepted, refused, paper}
-use Rattle.code.specs.Code.{CodeWord, distance, mostCorrected}
+use Rattle.code.specs.Code.{CodeWord, difference, ones, distance, mostCorrected}
+use Rattle.block.specs.declared.Corrected.{Corrected}
 use Rattle.block.specs.Bytes.{rowOf}
+use Rattle.block.specs.Words.{FiveWords, rowOfWords, zeroWords}
 
--- a code word differs from a row in at most eight places, and the count says in how many
-pub record Near (row word : List Bool) (count : ℕ) : Type 0 where
+-- a code word differs from a row in at most eight places; the row of changed places is exactly the difference between the two, and the
+-- count is the number of ones in it
+pub record Near (row word : List Bool) (count : ℕ) (changed : List ℕ) : Type 0 where
   pub code : CodeWord word
   pub near : distance row word ≤ mostCorrected
-  pub counts : count ≡ distance row word
+  pub words : FiveWords changed
+  pub places : rowOfWords changed ≡ difference row word
+  pub counts : count ≡ ones (difference row word)
 
 -- no code word differs in at most eight places
 abbrev pub NoneNear : List Bool → Type 0
@@ -26,30 +30,31 @@ pub record Sized (bytes room : ℕ) (given before : List ℕ) : Type 0 where
   pub input : length given ≡ bytes
   pub output : length before ≡ room
 
--- 1: a length is wrong; the count is 0 and the output as before
-pub record WrongLength (room : ℕ) (received before after : List ℕ) (answer : Answer) (count : ℕ) : Type 0 where
+-- 1: a length is wrong; the count is 0, the row zero and the output as before
+pub record WrongLength (room : ℕ) (received before after : List ℕ) (r : Corrected) : Type 0 where
   pub wrong : Sized 34 room received before → ⊥
-  pub answers : paper answer ≡ refused 1
-  pub counts : count ≡ 0
+  pub answers : paper (r .answer) ≡ refused 1
+  pub counts : r .count ≡ 0
+  pub places : r .changed ≡ zeroWords
   pub same : after ≡ before
 
--- 2: no code word differs in at most eight places; the count is 0 and the output as before
-pub record NoCodeWord (room : ℕ) (received before after : List ℕ) (answer : Answer) (count : ℕ) : Type 0 where
+-- 2: no code word differs in at most eight places; the count is 0, the row zero and the output as before
+pub record NoCodeWord (room : ℕ) (received before after : List ℕ) (r : Corrected) : Type 0 where
   pub sized : Sized 34 room received before
   pub none : NoneNear (rowOf received)
-  pub answers : paper answer ≡ refused 2
-  pub counts : count ≡ 0
+  pub answers : paper (r .answer) ≡ refused 2
+  pub counts : r .count ≡ 0
+  pub places : r .changed ≡ zeroWords
   pub same : after ≡ before
 
 -- accepted: that code word is the output
-pub record Word (received before after : List ℕ) (answer : Answer) (count : ℕ) : Type 0 where
+pub record Word (received before after : List ℕ) (r : Corrected) : Type 0 where
   pub sized : Sized 34 34 received before
   pub word : List Bool
-  pub found : Near (rowOf received) word count
-  pub answers : paper answer ≡ accepted
+  pub found : Near (rowOf received) word (r .count) (r .changed)
+  pub answers : paper (r .answer) ≡ accepted
   pub long : length after ≡ 34
   pub written : rowOf after ≡ word
 
-abbrev pub Corrects : (received before after : List ℕ) (answer : Answer) (count : ℕ) → Type 0
-Corrects received before after answer count =
-    WrongLength 34 received before after answer count ⊎ (NoCodeWord 34 received before after answer count ⊎ Word received before after answer count)
+abbrev pub Corrects : (received before after : List ℕ) (r : Corrected) → Type 0
+Corrects received before after r = WrongLength 34 received before after r ⊎ (NoCodeWord 34 received before after r ⊎ Word received before after r)

@@ -1,4 +1,5 @@
 pub mod Bytes
+pub mod Words
 pub mod Corrector
 pub mod Blocks
 pub mod Nearest

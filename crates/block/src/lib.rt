@@ -1,5 +1,7 @@
 // Document 01, "The block": 272 bits in sending order, as 34 bytes.
 ghost use mathlib.Core.Path.{_≡_};
+ghost use Rattle.answers.specs.Numbers.{refused, paper};
+ghost use Rattle.block.specs.Words.{zeroWords};
 ghost use Rattle.block.specs.Corrector.{Corrects};
 ghost use Rattle.block.specs.Blocks.{Reads, Writes};
 
@@ -21,57 +23,78 @@ const CHECKED_BITS: usize = 190;
 
 const BLOCK_BITS: usize = 272;
 
-// What the corrector and the block reader answer: the count is the number of places in which the code word differs from what was received.
+// A row of so many bits in words of 64: position p is the bit of weight 2^(p mod 64) in word p / 64, and the top 48 bits of
+// the last are zero.
+pub const BLOCK_WORDS: usize = 5;
+
+// What the corrector and the block reader answer: `changed` is the row of the places in which the code word differs from
+// what was received, and the count is the number of its ones.
 pub struct Corrected {
     pub answer: Answer,
     pub count: u8,
+    pub changed: [u64; BLOCK_WORDS],
 }
 
 // Puts into `out` the code word that differs from the received bits in at most eight places.
 // Answers, in the order of their tests: 1, `received` or `out` has another length than 34; 2, there is no such code word.
-// A refusal leaves `out` as it was, and the count is 0.
+// A refusal leaves `out` as it was, and the count and the row are zero.
 pub fn correct(received: &[u8], out: &mut [u8]) -> Corrected
-    ensures { λ r. ⌜ Corrects (now (received .entry)) (now (out .entry)) (now (out .exit)) (r .answer) (r .count) ⌝ }
+    ensures { λ r. ⌜ Corrects (now (received .entry)) (now (out .entry)) (now (out .exit)) r ⌝ }
 {
     if !((received.len() == BLOCK_BYTES) & (out.len() == BLOCK_BYTES)) {
-        return refused(Refusal::WrongLength);
+        return wrong_length();
     }
     let found = nearest::nearest(received);
+    let count = found.count;
+    let changed = found.changed;
     if !found.near {
-        return refused(Refusal::NoCodeWord);
+        return Corrected {
+            answer: Answer::Refused(Refusal::NoCodeWord),
+            count,
+            changed,
+        };
     }
     let word = found.word;
     rows::fill_bytes(&word, out);
     Corrected {
         answer: Answer::Accepted,
-        count: found.count,
+        count,
+        changed,
     }
 }
 
 // Puts into `out` the 22 information bytes of the code word that differs from the received bits in at most eight places.
 // Answers, in the order of their tests: 1, `received` has another length than 34 or `out` than 22; 2, there is no such
-// code word; 3, its check bits are wrong. A refusal leaves `out` as it was; the count is 0 with 1 and 2.
+// code word; 3, its check bits are wrong. A refusal leaves `out` as it was; the count and the row are zero with 1 and 2.
 pub fn read_block(received: &[u8], out: &mut [u8]) -> Corrected
-    ensures { λ r. ⌜ Reads (now (received .entry)) (now (out .entry)) (now (out .exit)) (r .answer) (r .count) ⌝ }
+    ensures { λ r. ⌜ Reads (now (received .entry)) (now (out .entry)) (now (out .exit)) r ⌝ }
 {
     if !((received.len() == BLOCK_BYTES) & (out.len() == INFORMATION_BYTES)) {
-        return refused(Refusal::WrongLength);
+        return wrong_length();
     }
     let found = nearest::nearest(received);
+    let count = found.count;
+    let changed = found.changed;
     if !found.near {
-        return refused(Refusal::NoCodeWord);
+        return Corrected {
+            answer: Answer::Refused(Refusal::NoCodeWord),
+            count,
+            changed,
+        };
     }
     let word = found.word;
     if !check::holds(&word) {
         return Corrected {
             answer: Answer::Refused(Refusal::CheckBits),
-            count: found.count,
+            count,
+            changed,
         };
     }
     rows::fill_bytes(&word, out);
     Corrected {
         answer: Answer::Accepted,
-        count: found.count,
+        count,
+        changed,
     }
 }
 
@@ -93,11 +116,12 @@ pub fn write_block(information: &[u8], out: &mut [u8]) -> Answer
     Answer::Accepted
 }
 
-fn refused(refusal: Refusal) -> Corrected
-    ensures { λ r. ⌜ (r .answer ≡ Answer.Refused refusal) × (r .count ≡ 0) ⌝ }
+fn wrong_length() -> Corrected
+    ensures { λ r. ⌜ (paper (r .answer) ≡ refused 1) × (r .count ≡ 0) × (r .changed ≡ zeroWords) ⌝ }
 {
     Corrected {
-        answer: Answer::Refused(refusal),
+        answer: Answer::Refused(Refusal::WrongLength),
         count: 0,
+        changed: [0; BLOCK_WORDS],
     }
 }

@@ -4,11 +4,13 @@ ghost use mathlib.Core.Bool.{true, false};
 ghost use Prim.Native.Nat.{_<_};
 ghost use lib.ListN.{length};
 ghost use Rattle.gf2.specs.Poly.{allZero, remainder};
-ghost use Rattle.code.specs.Code.{distance, generator};
+ghost use Rattle.code.specs.Code.{difference, ones, generator};
 ghost use Rattle.code.specs.Vote.{bitAt, checkPositions, paritySum, paritySums, oddSums, voted};
 ghost use Rattle.block.specs.Bytes.{rowOf};
+ghost use Rattle.block.specs.Words.{FiveWords, rowOfWords};
 ghost use Rattle.block.specs.Nearest.{Searched};
 use super::BLOCK_BITS;
+use super::BLOCK_WORDS;
 use super::check;
 use super::rows;
 
@@ -24,11 +26,12 @@ const MAJORITY: usize = 9;
 // A code word that differs in more places is not taken.
 const MOST_CORRECTED: usize = 8;
 
-// What the search found: with `near` a code word, and in how many places it differs.
+// What the search found: with `near` a code word, the places in which it differs and how many they are; else both are zero.
 pub(crate) struct Found {
     pub near: bool,
     pub word: [bool; BLOCK_BITS],
     pub count: u8,
+    pub changed: [u64; BLOCK_WORDS],
 }
 
 // A position of the circle of 273; the left-off one is zero.
@@ -105,16 +108,31 @@ fn is_code_word(row: &[bool; BLOCK_BITS]) -> bool
     check::divides(row, BLOCK_BITS, &generator)
 }
 
-// In how many places two rows differ.
-fn distance_of(row: &[bool; BLOCK_BITS], word: &[bool; BLOCK_BITS]) -> usize
+// The places in which two rows differ, as words.
+fn difference_of(row: &[bool; BLOCK_BITS], word: &[bool; BLOCK_BITS]) -> [u64; BLOCK_WORDS]
     requires { ⌜ (length (now row) ≡ 272) × (length (now word) ≡ 272) ⌝ }
-    ensures { λ r. ⌜ r ≡ distance (now (row .entry)) (now (word .entry)) ⌝ }
+    ensures { λ r. ⌜ FiveWords r × (rowOfWords r ≡ difference (now (row .entry)) (now (word .entry))) ⌝ }
 {
-    let mut count: usize = 0;
+    let mut changed = [0u64; BLOCK_WORDS];
     let mut place: usize = 0;
     while place < BLOCK_BITS {
-        count += gf2::number(gf2::sum(row[place], word[place])) as usize;
+        let differs = gf2::number(gf2::sum(row[place], word[place]));
+        changed[place / 64] = changed[place / 64] | (differs << (place % 64));
         place += 1;
+    }
+    changed
+}
+
+// How many ones a row has.
+fn ones_of(words: &[u64; BLOCK_WORDS]) -> usize
+    requires { ⌜ FiveWords (now words) ⌝ }
+    ensures { λ r. ⌜ r ≡ ones (rowOfWords (now (words .entry))) ⌝ }
+{
+    let mut count: usize = 0;
+    let mut i: usize = 0;
+    while i < BLOCK_WORDS {
+        count += u64::count_ones(words[i]) as usize;
+        i += 1;
     }
     count
 }
@@ -122,29 +140,32 @@ fn distance_of(row: &[bool; BLOCK_BITS], word: &[bool; BLOCK_BITS]) -> usize
 // The vote alone may leave a row that is no code word, or turn more than eight bits; both are tested.
 fn search(row: &[bool; BLOCK_BITS]) -> Found
     requires { ⌜ length (now row) ≡ 272 ⌝ }
-    ensures { λ r. ⌜ Searched (now (row .entry)) (r .near) (r .word) (r .count) ⌝ }
+    ensures { λ r. ⌜ Searched (now (row .entry)) (r .near) (r .word) (r .count) (r .changed) ⌝ }
 {
     let word = vote(row);
-    let places = distance_of(row, &word);
+    let changed = difference_of(row, &word);
+    let places = ones_of(&changed);
     if is_code_word(&word) & (places <= MOST_CORRECTED) {
         let count = places as u8;
         return Found {
             near: true,
             word,
             count,
+            changed,
         };
     }
     Found {
         near: false,
         word,
         count: 0,
+        changed: [0; BLOCK_WORDS],
     }
 }
 
 // What the search finds for a received block.
 pub(crate) fn nearest(received: &[u8]) -> Found
     requires { ⌜ length (now received) ≡ 34 ⌝ }
-    ensures { λ r. ⌜ Searched (rowOf (now (received .entry))) (r .near) (r .word) (r .count) ⌝ }
+    ensures { λ r. ⌜ Searched (rowOf (now (received .entry))) (r .near) (r .word) (r .count) (r .changed) ⌝ }
 {
     let mut row = [false; BLOCK_BITS];
     rows::fill_row(received, &mut row);

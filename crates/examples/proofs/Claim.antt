@@ -10,11 +10,16 @@ use lib.Dec.{T, leb, lit≤}
 use lib.Ieee.Fits.{and-r}
 use lib.ListN.{length, getD, replicate}
 use lib.Pow.{areBytes}
-use Rattle.code.specs.Code.{generator, CodeWord, distance}
+use Rattle.answers.specs.Numbers.{accepted, refused, paper}
+use Rattle.gf2.proofs.Remainders.{add-zeros}
+use Rattle.code.specs.Code.{generator, CodeWord, difference, ones, distance}
 use Rattle.code.proofs.Majority.{only-word, nine-away}
-use Rattle.block.specs.Bytes.{bitOf, rowOf}
-use Rattle.block.specs.Blocks.{checkDivisor, CheckRight}
-use Rattle.block.proofs.Bytes.{row-once, length-rowOf}
+use Rattle.block.specs.Bytes.{bitOf, bitsOf, rowOf}
+use Rattle.block.specs.Words.{rowOfWords}
+use Rattle.block.specs.Corrector.{Near, Corrects}
+use Rattle.block.specs.Blocks.{checkDivisor, CheckRight, Reads}
+use Rattle.block.proofs.Bytes.{row-once, length-bitsOf}
+use Rattle.block.proofs.Words.{zero-row}
 use Rattle.header.specs.Header.{bits, check}
 use Rattle.channel.specs.Layer4.{sizeOf, blocksFor}
 use Rattle.channel.specs.State.{fresh, keepsRule, asWaiting, stepOf}
@@ -22,98 +27,116 @@ use Rattle.writer.specs.Message.{ToldBlocks}
 use Rattle.writer.proofs.Laws.{within-true}
 use Rattle.writer.proofs.Writing.{message-count, message-written}
 use Rattle.band.specs.Band.{ToldNumber}
-use Rattle.examples.specs.Table.{word, noWord, generatorLast, wrongCheck, clearedWord, clearedNoWord, headerHolds, headerRefused, khz, reserved, short, extended, Holds, AllHold, Cleared, Fills, zeros, generatorBlock, table}
+use Rattle.examples.specs.Table.{word, noWord, generatorLast, wrongCheck, clearedWord, clearedNoWord, headerHolds, headerRefused, khz, reserved, short, extended, Holds, AllHold, Cleared, Fills, zeros, noPlace, firstEight, generatorBlock, table}
+
+-- the only word within eight places of what was received
+module _ (received corrected : List ℕ) (lr : length received ≡ 34) (code : CodeWord (rowOf corrected)) (near : distance (rowOf received) (rowOf corrected) ≤ 8) where
+  only : {word : List Bool} {n : ℕ} {changed : List ℕ} → Near (rowOf received) word n changed → word ≡ rowOf corrected
+  only {word} f = only-word (rowOf received) word (rowOf corrected) (length-bitsOf 8 received ∙ omega arith) (f .code) code (f .near) near
 
 -- a code word at so many places is what the corrector answers with
-word-holds : (received corrected : List ℕ) (count : ℕ) → length received ≡ 34 → length corrected ≡ 34 → areBytes corrected ≡ true → CodeWord (rowOf corrected)
-    → distance (rowOf received) (rowOf corrected) ≡ count → count ≤ 8 → Holds (word received corrected count)
-word-holds received corrected count lr lc bc code away near before after answer n lb ba (inl u) = absurd (u .wrong (record { input = lr; output = lb }))
-word-holds received corrected count lr lc bc code away near before after answer n lb ba (inr (inl u)) = absurd (u .none (rowOf corrected) code (omega arith))
-word-holds received corrected count lr lc bc code away near before after answer n lb ba (inr (inr u)) =
-    let same : u .word ≡ rowOf corrected =
-    only-word (rowOf received) (u .word) (rowOf corrected) (length-rowOf received ∙ omega arith) (u .found .code) code (u .found .near) (omega arith) in
-    (u .answers, row-once after corrected ba bc (u .long ∙ sym lc) (u .written ∙ same), u .found .counts ∙ ap (distance (rowOf received)) same ∙ away)
+word-holds : (received corrected : List ℕ) (count : ℕ) (row : List Bool) → length received ≡ 34 → length corrected ≡ 34 → areBytes corrected ≡ true
+    → CodeWord (rowOf corrected) → difference (rowOf received) (rowOf corrected) ≡ row → ones row ≡ count → count ≤ 8 → Holds (word received corrected count row)
+word-holds received corrected count row lr lc bc code away many near before after r lb ba = outcome
+  where
+    close : distance (rowOf received) (rowOf corrected) ≤ 8
+    close = omega (arith, ap ones away)
+
+    outcome : Corrects received before after r → (paper (r .answer) ≡ accepted) × (after ≡ corrected) × (r .count ≡ count) × (rowOfWords (r .changed) ≡ row)
+    outcome (inl u) = absurd (u .wrong (record { input = lr; output = lb }))
+    outcome (inr (inl u)) = absurd (u .none (rowOf corrected) code close)
+    outcome (inr (inr u)) =
+        let same = only received corrected lr code close (u .found) in
+        let places = ap (difference (rowOf received)) same ∙ away in
+        (u .answers, row-once after corrected ba bc (u .long ∙ sym lc) (u .written ∙ same), u .found .counts ∙ ap ones places ∙ many, u .found .places ∙ places)
 
 -- nine places away from a code word is refused
 noWord-holds : (received nine : List ℕ) → length received ≡ 34 → CodeWord (rowOf nine) → distance (rowOf received) (rowOf nine) ≡ 9 → Holds (noWord received)
-noWord-holds received nine lr code away before after answer n lb (inl u) = absurd (u .wrong (record { input = lr; output = lb }))
-noWord-holds received nine lr code away before after answer n lb (inr (inl u)) = (u .answers, u .same, u .counts)
-noWord-holds received nine lr code away before after answer n lb (inr (inr u)) =
-    absurd (nine-away (rowOf received) (rowOf nine) (length-rowOf received ∙ omega arith) code away (u .word) (u .found .code) (u .found .near))
+noWord-holds received nine lr code away before after r lb (inl u) = absurd (u .wrong (record { input = lr; output = lb }))
+noWord-holds received nine lr code away before after r lb (inr (inl u)) = (u .answers, u .same, u .counts, ap rowOfWords (u .places) ∙ zero-row)
+noWord-holds received nine lr code away before after r lb (inr (inr u)) =
+    absurd (nine-away (rowOf received) (rowOf nine) (length-bitsOf 8 received ∙ omega arith) code away (u .word) (u .found .code) (u .found .near))
 
 -- a code word with wrong check bits, received as it is
-wrongCheck-holds : (received : List ℕ) → length received ≡ 34 → CodeWord (rowOf received) → distance (rowOf received) (rowOf received) ≡ 0
-    → (CheckRight (rowOf received) → ⊥) → Holds (wrongCheck received 0)
-wrongCheck-holds received lr code away wrong before after answer n lb (inl u) = absurd (u .wrong (record { input = lr; output = lb }))
-wrongCheck-holds received lr code away wrong before after answer n lb (inr (inl u)) = absurd (u .none (rowOf received) code (omega arith))
-wrongCheck-holds received lr code away wrong before after answer n lb (inr (inr (inl u))) =
-    let same : u .word ≡ rowOf received =
-    only-word (rowOf received) (u .word) (rowOf received) (length-rowOf received ∙ omega arith) (u .found .code) code (u .found .near) (omega arith) in
-    (u .answers, u .same, u .found .counts ∙ ap (distance (rowOf received)) same ∙ away)
-wrongCheck-holds received lr code away wrong before after answer n lb (inr (inr (inr u))) =
-    let same : u .word ≡ rowOf received =
-    only-word (rowOf received) (u .word) (rowOf received) (length-rowOf received ∙ omega arith) (u .found .code) code (u .found .near) (omega arith) in
-    absurd (wrong (subst CheckRight same (u .right)))
+wrongCheck-holds : (received : List ℕ) → length received ≡ 34 → CodeWord (rowOf received) → difference (rowOf received) (rowOf received) ≡ noPlace
+    → (CheckRight (rowOf received) → ⊥) → Holds (wrongCheck received 0 noPlace)
+wrongCheck-holds received lr code away wrong before after r lb = outcome
+  where
+    close : distance (rowOf received) (rowOf received) ≤ 8
+    close = omega (arith, ap ones away)
+
+    outcome : Reads received before after r → (paper (r .answer) ≡ refused 3) × (after ≡ before) × (r .count ≡ 0) × (rowOfWords (r .changed) ≡ noPlace)
+    outcome (inl u) = absurd (u .wrong (record { input = lr; output = lb }))
+    outcome (inr (inl u)) = absurd (u .none (rowOf received) code close)
+    outcome (inr (inr (inl u))) =
+        let places = ap (difference (rowOf received)) (only received received lr code close (u .found)) ∙ away in
+        (u .answers, u .same, u .found .counts ∙ ap ones places, u .found .places ∙ places)
+    outcome (inr (inr (inr u))) = absurd (wrong (subst CheckRight (only received received lr code close (u .found)) (u .right)))
 
 zero-code : CodeWord (rowOf (zeros 34))
-unfolding rowOf bitOf generator
+unfolding bitsOf bitOf generator
 zero-code = record { quotient = replicate 190 false; long = refl; product = refl }
 
 p4-generator : Holds (generatorLast generatorBlock 18)
-unfolding rowOf bitOf generator
+unfolding bitsOf bitOf generator
 p4-generator = (refl, refl)
 
 generator-code : CodeWord (rowOf generatorBlock)
-unfolding rowOf bitOf generator
+unfolding bitsOf bitOf generator
 generator-code = record { quotient = replicate 189 false ++ (true ∷ []); long = refl; product = refl }
 
 -- its last check bit is the generator's leading term, and the check of no information is zero
 generator-check : CheckRight (rowOf generatorBlock) → ⊥
-unfolding rowOf bitOf checkDivisor
+unfolding bitsOf bitOf checkDivisor
 generator-check e = false≢true (sym (ap (λ row. getD row 13 false) e))
 
-p1 : Holds (word (zeros 34) (zeros 34) 0)
-unfolding rowOf bitOf
-p1 = word-holds (zeros 34) (zeros 34) 0 refl refl refl zero-code refl (lit≤ tt)
+p1 : Holds (word (zeros 34) (zeros 34) 0 noPlace)
+unfolding bitsOf bitOf
+p1 = word-holds (zeros 34) (zeros 34) 0 noPlace refl refl refl zero-code refl refl (lit≤ tt)
 
-p2 : Holds (word (255 ∷ zeros 33) (zeros 34) 8)
-unfolding rowOf bitOf
-p2 = word-holds (255 ∷ zeros 33) (zeros 34) 8 refl refl refl zero-code refl (lit≤ tt)
+p2 : Holds (word (255 ∷ zeros 33) (zeros 34) 8 firstEight)
+unfolding bitsOf bitOf
+p2 = word-holds (255 ∷ zeros 33) (zeros 34) 8 firstEight refl refl refl zero-code refl refl (lit≤ tt)
 
 p3 : Holds (noWord (255 ∷ 1 ∷ zeros 32))
-unfolding rowOf bitOf
+unfolding bitsOf bitOf
 p3 = noWord-holds (255 ∷ 1 ∷ zeros 32) (zeros 34) refl zero-code refl
 
-p4 : Holds (word generatorBlock generatorBlock 0)
-unfolding rowOf bitOf
-p4 = word-holds generatorBlock generatorBlock 0 refl refl refl generator-code refl (lit≤ tt)
+p4 : Holds (word generatorBlock generatorBlock 0 noPlace)
+unfolding bitsOf bitOf
+p4 = word-holds generatorBlock generatorBlock 0 noPlace refl refl refl generator-code refl refl (lit≤ tt)
 
-p4-read : Holds (wrongCheck generatorBlock 0)
-unfolding rowOf bitOf
+p4-read : Holds (wrongCheck generatorBlock 0 noPlace)
+unfolding bitsOf bitOf
 p4-read = wrongCheck-holds generatorBlock refl generator-code refl generator-check
 
 -- the ones that are cleared and those that are left are the ones of the whole
-ones-left : (n : ℕ) (row whole : List Bool) → length row ≡ n → length whole ≡ n → ((p : ℕ) → getD row p false ≡ true → getD whole p false ≡ true)
-    → distance row whole + distance row (replicate n false) ≡ distance whole (replicate n false)
-ones-left n [] [] l k within = refl
-ones-left n [] (w ∷ whole) l k within = absurd (omega arith)
-ones-left n (r ∷ row) [] l k within = absurd (omega arith)
-ones-left zero (r ∷ row) (w ∷ whole) l k within = absurd (omega arith)
-ones-left (suc n) (true ∷ row) (false ∷ whole) l k within = absurd (false≢true (within zero refl))
-ones-left (suc n) (true ∷ row) (true ∷ whole) l k within = omega (arith, ones-left n row whole (omega arith) (omega arith) (λ p. within (suc p)))
-ones-left (suc n) (false ∷ row) (true ∷ whole) l k within = omega (arith, ones-left n row whole (omega arith) (omega arith) (λ p. within (suc p)))
-ones-left (suc n) (false ∷ row) (false ∷ whole) l k within = omega (arith, ones-left n row whole (omega arith) (omega arith) (λ p. within (suc p)))
+ones-left : (row whole : List Bool) → length row ≡ length whole → ((p : ℕ) → getD row p false ≡ true → getD whole p false ≡ true)
+    → distance row whole + ones row ≡ ones whole
+ones-left [] [] l within = refl
+ones-left [] (w ∷ whole) l within = absurd (omega arith)
+ones-left (r ∷ row) [] l within = absurd (omega arith)
+ones-left (true ∷ row) (false ∷ whole) l within = absurd (false≢true (within zero refl))
+ones-left (true ∷ row) (true ∷ whole) l within = omega (arith, ones-left row whole (omega arith) (λ p. within (suc p)))
+ones-left (false ∷ row) (true ∷ whole) l within = omega (arith, ones-left row whole (omega arith) (λ p. within (suc p)))
+ones-left (false ∷ row) (false ∷ whole) l within = omega (arith, ones-left row whole (omega arith) (λ p. within (suc p)))
 
-zero-row : rowOf (zeros 34) ≡ replicate 272 false
-unfolding rowOf bitOf
-zero-row = refl
+zeros-row : rowOf (zeros 34) ≡ noPlace
+unfolding bitsOf bitOf
+zeros-row = refl
 
--- so far from the zero word is what is left of the 18
-left : (ones : ℕ) (received : List ℕ) → Cleared ones received → ones + distance (rowOf received) (rowOf (zeros 34)) ≡ 18
-left ones received c =
-    (λ i. sym (c .differs) i + distance (rowOf received) (zero-row i))
-    ∙ ones-left 272 (rowOf received) (rowOf generatorBlock) (length-rowOf received ∙ ap (λ (n : ℕ). 8 * n) (c .long)) (length-rowOf generatorBlock) (c .within)
-    ∙ p4-generator .1
+-- what is left of the generator: so far from it, and from the zero word so far as its ones are what is left of the 18
+module _ (many : ℕ) (received : List ℕ) (c : Cleared many received) where
+  from-zero : difference (rowOf received) (rowOf (zeros 34)) ≡ rowOf received
+  from-zero =
+      let long : 272 ≡ length (rowOf received) = sym (length-bitsOf 8 received ∙ omega (arith, c .long)) in
+      ap (difference (rowOf received)) (zeros-row ∙ ap (λ (n : ℕ). replicate n false) long) ∙ add-zeros (rowOf received)
+
+  left : many + ones (rowOf received) ≡ 18
+  left =
+      ap (λ (n : ℕ). n + ones (rowOf received)) (sym (c .differs))
+      ∙ ones-left (rowOf received) (rowOf generatorBlock) (length-bitsOf 8 received ∙ ap (λ (n : ℕ). 8 * n) (c .long) ∙ sym (length-bitsOf 8 generatorBlock)) (c .within)
+      ∙ p4-generator .1
 
 -- each one of the row is one of the whole, by one computed test
 abbrev covers : (whole row : List Bool) → Bool
@@ -131,9 +154,9 @@ covered (false ∷ whole) (true ∷ row) t zero e = absurd t
 covered (w ∷ whole) (false ∷ row) t zero e = absurd (false≢true e)
 covered (w ∷ whole) (r ∷ row) t (suc p) e = covered whole row (and-r (w || not r) (covers whole row) t) p e
 
-cleared : (ones : ℕ) (received : List ℕ) → length received ≡ 34 → distance (rowOf received) (rowOf generatorBlock) ≡ ones
-    → T (covers (rowOf generatorBlock) (rowOf received)) → Cleared ones received
-cleared ones received long away t = record { long = long; differs = away; within = covered (rowOf generatorBlock) (rowOf received) t }
+cleared : (many : ℕ) (received : List ℕ) → length received ≡ 34 → distance (rowOf received) (rowOf generatorBlock) ≡ many
+    → T (covers (rowOf generatorBlock) (rowOf received)) → Cleared many received
+cleared many received long away t = record { long = long; differs = away; within = covered (rowOf generatorBlock) (rowOf received) t }
 
 -- the generator's last bytes, which have eight of its ones, and nine
 abbrev eightLeft : List ℕ
@@ -143,17 +166,17 @@ abbrev nineLeft : List ℕ
 nineLeft = zeros 28 ++ (128 ∷ 40 ∷ 128 ∷ 34 ∷ 32 ∷ 136 ∷ [])
 
 p5 : Holds (clearedWord 10 (zeros 34) 8)
-unfolding rowOf bitOf
+unfolding bitsOf bitOf
 p5 = (
   (eightLeft, cleared 10 eightLeft refl refl tt),
-  λ received c. word-holds received (zeros 34) 8 (c .long) refl refl zero-code (omega (arith, left 10 received c)) (lit≤ tt),
+  λ received c. word-holds received (zeros 34) 8 (rowOf received) (c .long) refl refl zero-code (from-zero 10 received c) (omega (arith, left 10 received c)) (lit≤ tt),
 )
 
 p5-nine : Holds (clearedNoWord 9)
-unfolding rowOf bitOf
+unfolding bitsOf bitOf
 p5-nine = (
   (nineLeft, cleared 9 nineLeft refl refl tt),
-  λ received c. noWord-holds received (zeros 34) (c .long) zero-code (omega (arith, left 9 received c)),
+  λ received c. noWord-holds received (zeros 34) (c .long) zero-code (ap ones (from-zero 9 received c) ∙ omega (arith, left 9 received c)),
 )
 
 p6 : Holds (headerHolds 164 25 1)

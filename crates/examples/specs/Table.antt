@@ -6,10 +6,11 @@ use mathlib.Core.List.{List, [], _∷_, _++_}
 use Prim.Native.Nat.{ℕ, _*_, _≤_}
 use lib.ListN.{length, getD, replicate}
 use lib.Pow.{areBytes}
-use Rattle.answers.specs.declared.Answer.{Answer}
 use Rattle.answers.specs.Numbers.{accepted, refused, paper}
-use Rattle.code.specs.Code.{generator, distance}
+use Rattle.code.specs.Code.{generator, ones, distance}
+use Rattle.block.specs.declared.Corrected.{Corrected}
 use Rattle.block.specs.Bytes.{rowOf}
+use Rattle.block.specs.Words.{rowOfWords}
 use Rattle.block.specs.Corrector.{Corrects}
 use Rattle.block.specs.Blocks.{Reads}
 use Rattle.channel.specs.declared.Channel.{Channel}
@@ -26,19 +27,19 @@ use Rattle.band.specs.declared.ChannelAnswer.{ChannelAnswer}
 use Rattle.band.specs.Band.{toldKilohertz, kilohertzOf, toldChannel, numberedOf}
 
 pub data Example : Type 0 where
-  -- the corrector answers these bytes with this word and this count
-  word : (received corrected : List ℕ) (count : ℕ) → Example
-  -- the corrector answers 2
+  -- the corrector answers these bytes with this word, this count and this row of changed places
+  word : (received corrected : List ℕ) (count : ℕ) (row : List Bool) → Example
+  -- the corrector answers 2, with a zero row
   noWord : (received : List ℕ) → Example
   -- these bytes are the generator itself in the last 83 positions, and have so many ones
-  generatorLast : (block : List ℕ) (ones : ℕ) → Example
-  -- the block reader answers 3 with this count
-  wrongCheck : (received : List ℕ) (count : ℕ) → Example
+  generatorLast : (block : List ℕ) (many : ℕ) → Example
+  -- the block reader answers 3 with this count and this row
+  wrongCheck : (received : List ℕ) (count : ℕ) (row : List Bool) → Example
   -- the generator with so many of its ones cleared, and there is such a block: whichever they are, the corrector answers with this
-  -- word and this count
-  clearedWord : (ones : ℕ) (corrected : List ℕ) (count : ℕ) → Example
-  -- the same with so many cleared: the corrector answers 2
-  clearedNoWord : (ones : ℕ) → Example
+  -- word and this count, and the row has the ones that are left
+  clearedWord : (many : ℕ) (corrected : List ℕ) (count : ℕ) → Example
+  -- the same with so many cleared: the corrector answers 2, with a zero row
+  clearedNoWord : (many : ℕ) → Example
   -- this header holds, with LF set: with any twenty data bytes it takes a fresh channel (answer 8) from waiting to ready,
   -- expecting this SC
   headerHolds : (first second expected : ℕ) → Example
@@ -57,22 +58,30 @@ pub data Example : Type 0 where
 abbrev pub zeros : ℕ → List ℕ
 zeros n = replicate n 0
 
+-- no place is changed
+abbrev pub noPlace : List Bool
+noPlace = replicate 272 false
+
+-- the first eight places are changed
+abbrev pub firstEight : List Bool
+firstEight = replicate 8 true ++ replicate 264 false
+
 -- the generator itself in the last 83 positions: the table claims that it is
 abbrev pub generatorBlock : List ℕ
 generatorBlock = zeros 23 ++ (32 ∷ 12 ∷ 49 ∷ 128 ∷ 136 ∷ 128 ∷ 40 ∷ 128 ∷ 34 ∷ 32 ∷ 136 ∷ [])
 
 -- the same with so many of its ones cleared: it differs in so many places, and a one of it is always one of the generator's
-pub record Cleared (ones : ℕ) (received : List ℕ) : Type 0 where
+pub record Cleared (many : ℕ) (received : List ℕ) : Type 0 where
   pub long : length received ≡ 34
-  pub differs : distance (rowOf received) (rowOf generatorBlock) ≡ ones
+  pub differs : distance (rowOf received) (rowOf generatorBlock) ≡ many
   pub within : (p : ℕ) → getD (rowOf received) p false ≡ true → getD (rowOf generatorBlock) p false ≡ true
 
 abbrev pub table : List Example
 table =
     -- P1, P2, P3
-    word (zeros 34) (zeros 34) 0 ∷ word (255 ∷ zeros 33) (zeros 34) 8 ∷ noWord (255 ∷ 1 ∷ zeros 32)
+    word (zeros 34) (zeros 34) 0 noPlace ∷ word (255 ∷ zeros 33) (zeros 34) 8 firstEight ∷ noWord (255 ∷ 1 ∷ zeros 32)
     -- P4
-    ∷ generatorLast generatorBlock 18 ∷ word generatorBlock generatorBlock 0 ∷ wrongCheck generatorBlock 0
+    ∷ generatorLast generatorBlock 18 ∷ word generatorBlock generatorBlock 0 noPlace ∷ wrongCheck generatorBlock 0 noPlace
     -- P5
     ∷ clearedWord 10 (zeros 34) 8 ∷ clearedNoWord 9
     -- P6 A4 19, P7 A4 18, P8 a zero header
@@ -82,17 +91,17 @@ table =
     -- P11, P12; beside them the extended header with 255 bytes, and no data with either header
     ∷ short 16 1 ∷ short 17 2 ∷ extended 255 13 ∷ short 0 1 ∷ extended 0 1 ∷ []
 
--- every outcome of the corrector for these bytes: accepted, with this word and this count
-abbrev pub GivesWord : (received corrected : List ℕ) (count : ℕ) → Type 0
-GivesWord received corrected count =
-    (before after : List ℕ) (answer : Answer) (n : ℕ) → length before ≡ 34 → areBytes after ≡ true → Corrects received before after answer n
-    → (paper answer ≡ accepted) × (after ≡ corrected) × (n ≡ count)
+-- every outcome of the corrector for these bytes: accepted, with this word, this count and this row
+abbrev pub GivesWord : (received corrected : List ℕ) (count : ℕ) (row : List Bool) → Type 0
+GivesWord received corrected count row =
+    (before after : List ℕ) (r : Corrected) → length before ≡ 34 → areBytes after ≡ true → Corrects received before after r
+    → (paper (r .answer) ≡ accepted) × (after ≡ corrected) × (r .count ≡ count) × (rowOfWords (r .changed) ≡ row)
 
--- every outcome of the corrector for these bytes: answer 2, count 0, the output as before
+-- every outcome of the corrector for these bytes: answer 2, count 0, the row zero, the output as before
 abbrev pub GivesNoWord : (received : List ℕ) → Type 0
 GivesNoWord received =
-    (before after : List ℕ) (answer : Answer) (n : ℕ) → length before ≡ 34 → Corrects received before after answer n
-    → (paper answer ≡ refused 2) × (after ≡ before) × (n ≡ 0)
+    (before after : List ℕ) (r : Corrected) → length before ≡ 34 → Corrects received before after r
+    → (paper (r .answer) ≡ refused 2) × (after ≡ before) × (r .count ≡ 0) × (rowOfWords (r .changed) ≡ noPlace)
 
 -- every outcome of the message writer for fields within their widths, a number from `least` to `most`, so many data bytes
 -- and room enough: accepted, with so many blocks
@@ -103,16 +112,15 @@ Fills least most bytes blocks =
     → (paper (r .answer) ≡ accepted) × (r .blocks ≡ blocks)
 
 abbrev pub Holds : Example → Type 0
-Holds (word received corrected count) = GivesWord received corrected count
+Holds (word received corrected count row) = GivesWord received corrected count row
 Holds (noWord received) = GivesNoWord received
-Holds (generatorLast block ones) =
-    (rowOf block ≡ replicate 189 false ++ (true ∷ generator)) × (distance (rowOf block) (replicate 272 false) ≡ ones)
-Holds (wrongCheck received count) =
-    (before after : List ℕ) (answer : Answer) (n : ℕ) → length before ≡ 22 → Reads received before after answer n
-    → (paper answer ≡ refused 3) × (after ≡ before) × (n ≡ count)
-Holds (clearedWord ones corrected count) =
-    ((received : List ℕ) × Cleared ones received) × ((received : List ℕ) → Cleared ones received → GivesWord received corrected count)
-Holds (clearedNoWord ones) = ((received : List ℕ) × Cleared ones received) × ((received : List ℕ) → Cleared ones received → GivesNoWord received)
+Holds (generatorLast block many) = (rowOf block ≡ replicate 189 false ++ (true ∷ generator)) × (ones (rowOf block) ≡ many)
+Holds (wrongCheck received count row) =
+    (before after : List ℕ) (r : Corrected) → length before ≡ 22 → Reads received before after r
+    → (paper (r .answer) ≡ refused 3) × (after ≡ before) × (r .count ≡ count) × (rowOfWords (r .changed) ≡ row)
+Holds (clearedWord many corrected count) =
+    ((received : List ℕ) × Cleared many received) × ((received : List ℕ) → Cleared many received → GivesWord received corrected count (rowOf received))
+Holds (clearedNoWord many) = ((received : List ℕ) × Cleared many received) × ((received : List ℕ) → Cleared many received → GivesNoWord received)
 Holds (headerHolds first second expected) =
     (twenty : List ℕ) (r : Stepped) → length twenty ≡ 20 → channel.toldStep r ≡ stepOf fresh (first ∷ second ∷ twenty)
     → channel.toldStep r ≡ channelAfter (channel.refused 8) (channelWith (zeros 260) 0 Ready expected)

@@ -34,16 +34,16 @@ pub length-remainder : (low : List Bool) (k : ℕ) (row : List Bool) (d : ℕ) �
 length-remainder low k row d h = length-drop k (divided low k row) ∙ omega (arith, length-divided low k row)
 
 -- sums of rows
-add-twice : (xs ys : List Bool) → add xs (add xs ys) ≡ ys
+pub add-twice : (xs ys : List Bool) → add xs (add xs ys) ≡ ys
 add-twice [] ys = refl
 add-twice (x ∷ xs) [] = refl
 add-twice (x ∷ xs) (y ∷ ys) = λ i. ⊕-twice x y i ∷ add-twice xs ys i
 
-add-self : (xs : List Bool) → add xs xs ≡ replicate (length xs) false
+pub add-self : (xs : List Bool) → add xs xs ≡ replicate (length xs) false
 add-self [] = refl
 add-self (x ∷ xs) = λ i. ⊕-self x i ∷ add-self xs i
 
-add-zeros : (xs : List Bool) → add xs (replicate (length xs) false) ≡ xs
+pub add-zeros : (xs : List Bool) → add xs (replicate (length xs) false) ≡ xs
 add-zeros [] = refl
 add-zeros (x ∷ xs) = λ i. ⊕-false x i ∷ add-zeros xs i
 

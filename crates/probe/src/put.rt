@@ -4,6 +4,7 @@ ghost use Rattle.io.specs.Counts.{Counts};
 use crate::rooms;
 use answers::Answer;
 use answers::Refusal;
+use block::BLOCK_WORDS;
 use libc::STDOUT_FILENO;
 
 pub(crate) fn word(word: &[u8]) {
@@ -53,12 +54,25 @@ pub(crate) fn flag(value: bool) {
 
 // The 16 digits of a binary64's bits, and sixteen `n` for what is no number.
 pub(crate) fn float(value: f64) {
-    tab();
     if value != value {
-        word(b"nnnnnnnnnnnnnnnn");
+        word(b"\tnnnnnnnnnnnnnnnn");
         return;
     }
-    io::print_hex(STDOUT_FILENO, f64::to_bits(value), 16);
+    bits(f64::to_bits(value));
+}
+
+// A row, each of its words in 16 digits.
+pub(crate) fn row(words: &[u64; BLOCK_WORDS]) {
+    let mut i = 0;
+    while i < BLOCK_WORDS {
+        bits(words[i]);
+        i += 1;
+    }
+}
+
+fn bits(value: u64) {
+    tab();
+    io::print_hex(STDOUT_FILENO, value, 16);
 }
 
 // What was lent.

@@ -1,10 +1,9 @@
 -- `block::read_block`: as the corrector, with the code word's check bits before its bytes. Assumes nothing.
 use Rattle.block.specs.Bytes.{rowOf}
 use Rattle.block.specs.Corrector.{Near, Sized}
-use Rattle.block.proofs.Outcomes.{sized-so, not-sized, wrong-length, no-code-word}
+use Rattle.block.proofs.Outcomes.{sized-so, not-sized}
 use Rattle.block.proofs.Blocks.{check-tested}
 use Rattle.code.proofs.Majority.{code-length}
-use Rattle.answers.specs.Numbers.{paper}
 use Prim.Native.Nat.{ℕ, _*_}
 use lib.ListN.{take}
 use native.Mathlib.Omega.{arith}
@@ -22,25 +21,25 @@ sized c = sized-so 34 22 _ _ (c .if1 .left)
 
 -- a code word was found
 found : (c : tie.Else2)
-    → let n = c .before .before in Near (rowOf (n .before .before .before .before .args .received .now)) (n .nearest .result .word) (n .nearest .result .count)
-found c = c .before .before .nearest .ensures .met (not-false _ (c .if2 .left))
+    → let n = c .before .before .before in Near (rowOf (n .before .before .before .before .args .received .now)) (n .nearest .result .word) (n .nearest .result .count) (n .nearest .result .changed)
+found c = c .before .before .before .nearest .ensures .met (not-false _ (c .if2 .left))
 
-refused-requires : tie.Need-refused-requires
-refused-requires c κs = search needs
+wrong-length-requires : tie.Need-wrong-length-requires
+wrong-length-requires c κs = search needs
 
 returns : tie.Need-returns
-returns c = inl (wrong-length _ _ _ _ _ (not-sized 34 22 _ _ (c .before .if1 .taken)) (ap paper (c .refused .ensures .0)) (c .refused .ensures .1))
+returns c =
+    let w = c .wrong-length .ensures in
+    inl (record { wrong = not-sized 34 22 _ _ (c .before .if1 .taken); answers = w .0; counts = w .1; places = w .2; same = refl })
 
 nearest-requires : tie.Need-nearest-requires
 nearest-requires c κs = sized c .input
 
-refused-requires-2 : tie.Need-refused-requires-2
-refused-requires-2 c κs = search needs
-
 returns-2 : tie.Need-returns-2
 returns-2 c =
     let n = c .before .before .before in
-    inr (inl (no-code-word _ _ _ _ _ (sized (n .before)) (n .nearest .ensures .missed (not-true _ (c .before .if2 .taken))) (ap paper (c .refused2 .ensures .0)) (c .refused2 .ensures .1)))
+    let m = n .nearest .ensures .missed (not-true _ (c .if2 .taken)) in
+    inr (inl (record { sized = sized (n .before); none = m .0; answers = refl; counts = m .1; places = m .2; same = refl }))
 
 holds-requires : tie.Need-holds-requires
 holds-requires c κs = code-length _ (found (c .before .before) .code)
@@ -49,7 +48,7 @@ returns-3 : tie.Need-returns-3
 returns-3 c =
     let h = c .before in
     let e = h .before .before .before in
-    let n = e .before .before in
+    let n = e .before .before .before in
     inr (inr (inl (record {
       sized = sized (n .before);
       word = n .nearest .result .word;
@@ -65,7 +64,7 @@ slice-aggregate-fill-bytes c = search needs
 fill-bytes-requires : tie.Need-fill-bytes-requires
 fill-bytes-requires c κs =
     let e = c .before .before .before .before .before .before in
-    omega (arith, sized (e .before .before .before) .output, code-length _ (found e .code))
+    omega (arith, sized (e .before .before .before .before) .output, code-length _ (found e .code))
 
 same-length : tie.Need-same-length
 same-length c = search needs
@@ -75,7 +74,7 @@ returns-4 c =
     let f = c .before .before in
     let i = f .before .before .before in
     let e = i .before .before .before .before in
-    let n = e .before .before in
+    let n = e .before .before .before in
     let z = sized (n .before) in
     inr (inr (inr (record {
       sized = z;
@@ -91,10 +90,9 @@ pub read-block-spec : {M : Type 1} → statement M
 read-block-spec =
     tie.close
     (tie.spec
-    refused-requires
+    wrong-length-requires
     returns
     nearest-requires
-    refused-requires-2
     returns-2
     holds-requires
     returns-3

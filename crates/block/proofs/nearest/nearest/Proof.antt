@@ -22,7 +22,7 @@ returns c =
     let u = c .before .before .before in
     let s = u .before .before .before in
     let r = c .search .result in
-    subst (λ (row : List Bool). Searched row (r .near) (r .word) (r .count)) (u .fill-row .ensures ∙ whole-row (s .args .received .now) (s .pre)) (c .search .ensures)
+    subst (λ (row : List Bool). Searched row (r .near) (r .word) (r .count) (r .changed)) (u .fill-row .ensures ∙ whole-row (s .args .received .now) (s .pre)) (c .search .ensures)
 
 pub nearest-spec : {M : Type 1} → statement M
 nearest-spec = tie.close (tie.spec slice-aggregate-fill-row fill-row-requires search-requires returns)

@@ -1,5 +1,5 @@
 -- `block::rows::fill_row`: the places below p hold the bits of the bytes, the rest is as it was. Assumes nothing.
-use Rattle.block.proofs.Bytes.{length-rowOf, getD-rowOf}
+use Rattle.block.proofs.Bytes.{length-bitsOf, getD-bitsOf}
 use Rattle.block.specs.Bytes.{bitOf, rowOf}
 use Rattle.gf2.proofs.Lists.{front-turn}
 use lib.Seq.{take-all}
@@ -50,8 +50,8 @@ loop-again c =
     let a = h .before .args in (
       search needs,
       length-set (h .loop .row) (h .loop .p) _ ∙ h .loop .inv .1,
-      front-turn (rowOf (a .bytes .now)) (a .row .now) (h .loop .row) (h .loop .p) _ false (omega (arith, length-rowOf (a .bytes .now))) (omega arith)
-          (sym (getD-rowOf (a .bytes .now) (h .loop .p) (omega arith))) (h .loop .inv .2),
+      front-turn (rowOf (a .bytes .now)) (a .row .now) (h .loop .row) (h .loop .p) _ false (omega (arith, length-bitsOf 8 (a .bytes .now))) (omega arith)
+          (sym (getD-bitsOf 8 (a .bytes .now) (h .loop .p) (omega arith))) (h .loop .inv .2),
     )
 
 same-length : tie.Need-same-length Inv-loop μ-loop
@@ -62,7 +62,7 @@ returns c =
     let l = c .before in
     let a = l .before .args in
     let done : l .loop .p ≡ 8 * length (a .bytes .now) = omega arith in
-    l .loop .inv .2 ∙ (λ i. take-all (l .loop .p) (rowOf (a .bytes .now)) (omega (arith, length-rowOf (a .bytes .now))) i ++ drop (done i) (a .row .now))
+    l .loop .inv .2 ∙ (λ i. take-all (l .loop .p) (rowOf (a .bytes .now)) (omega (arith, length-bitsOf 8 (a .bytes .now))) i ++ drop (done i) (a .row .now))
 
 pub fill-row-spec : {M : Type 1} → statement M
 fill-row-spec =

@@ -4,9 +4,6 @@ use borrow.Author.Needs.{needs}
 use Rattle.probe.proofs.put.float.Statement.{statement}
 use Rattle.probe.proofs.put.float.Tie as tie
 
-tab-requires : tie.Need-tab-requires
-tab-requires c κs = search needs
-
 slice-aggregate-word : tie.Need-slice-aggregate-word
 slice-aggregate-word c = search needs
 
@@ -16,11 +13,11 @@ word-requires c κs = search needs
 returns : tie.Need-returns
 returns c = search needs
 
-float-to-bits-print-hex : tie.Need-float-to-bits-print-hex
-float-to-bits-print-hex c = eq-number _ (c .if1 .left)
+float-to-bits-bits : tie.Need-float-to-bits-bits
+float-to-bits-bits c = eq-number _ (c .if1 .left)
 
-print-hex-requires : tie.Need-print-hex-requires
-print-hex-requires c κs = search needs
+bits-requires : tie.Need-bits-requires
+bits-requires c κs = search needs
 
 returns-2 : tie.Need-returns-2
 returns-2 c = search needs
@@ -29,10 +26,9 @@ pub float-spec : {M : Type 1} → statement M
 float-spec =
     tie.close
     (tie.spec
-    tab-requires
     slice-aggregate-word
     word-requires
     returns
-    float-to-bits-print-hex
-    print-hex-requires
+    float-to-bits-bits
+    bits-requires
     returns-2)
