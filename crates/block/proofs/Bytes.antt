@@ -15,15 +15,15 @@ use Rattle.answers.proofs.Bytes.{byte-at}
 use Rattle.gf2.proofs.Bits.{bit-lt}
 use Rattle.gf2.proofs.Lists.{Filled, length-rowFrom, getD-rowFrom}
 use Rattle.gf2.specs.Poly.{bit}
-use Rattle.block.specs.Bytes.{bitOf, position, bitsOf, rowOf, byteOf}
+use Rattle.block.specs.Bytes.{bitOf, bitIn, bitsOf, rowOf, byteOf}
 
 pub length-bitsOf : (width : ℕ) (numbers : List ℕ) → length (bitsOf width numbers) ≡ width * length numbers
 unfolding bitsOf
 length-bitsOf width numbers = length-rowFrom _ 0 (width * length numbers)
 
-pub getD-bitsOf : (width : ℕ) (numbers : List ℕ) (p : ℕ) → p < width * length numbers → getD (bitsOf width numbers) p false ≡ position width numbers p
+pub getD-bitsOf : (width : ℕ) (numbers : List ℕ) (p : ℕ) → p < width * length numbers → getD (bitsOf width numbers) p false ≡ bitIn width numbers p
 unfolding bitsOf
-getD-bitsOf width numbers p h = getD-rowFrom (position width numbers) (width * length numbers) p h
+getD-bitsOf width numbers p h = getD-rowFrom (bitIn width numbers) (width * length numbers) p h
 
 pub bitOf-zero : (k : ℕ) → bitOf 0 k ≡ false
 unfolding bitOf

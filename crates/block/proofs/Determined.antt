@@ -14,6 +14,7 @@ use Rattle.code.specs.Code.{difference, ones}
 use Rattle.code.proofs.Majority.{only-word}
 use Rattle.block.specs.declared.Corrected.{Corrected}
 use Rattle.block.specs.Bytes.{rowOf}
+use Rattle.block.specs.Words.{rowOfWords}
 use Rattle.block.specs.Corrector.{Near, WrongLength, NoCodeWord, Corrects}
 use Rattle.block.specs.Blocks.{CheckRight, Reads, Writes}
 use Rattle.block.proofs.Bytes.{row-once, length-bitsOf}
@@ -37,7 +38,8 @@ pub found-once : (received : List ℕ) {u v : List Bool} {m n : ℕ} {xs ys : Li
 found-once received {u} {v} {m} {n} {xs} {ys} l p q =
     let word : u ≡ v = only-word (rowOf received) u v (omega (arith, length-bitsOf 8 received)) (p .code) (q .code) (p .near) (q .near) in
     let row : difference (rowOf received) u ≡ difference (rowOf received) v = ap (difference (rowOf received)) word in
-    (word, (p .counts ∙ ap ones row ∙ sym (q .counts), words-once xs ys (p .words) (q .words) (p .places ∙ row ∙ sym (q .places))))
+    let changed : xs ≡ ys = words-once xs ys (p .words) (q .words) (p .places ∙ row ∙ sym (q .places)) in
+    (word, (p .counts ∙ ap (λ zs. ones (rowOfWords zs)) changed ∙ sym (q .counts), changed))
 
 module _ (received before : List ℕ) (r s : Corrected) (x y : List ℕ) (bx : areBytes x ≡ true) (by : areBytes y ≡ true) where
   -- `correct`

@@ -5,5 +5,5 @@ pub mod Turns
 pub mod Outcomes
 pub mod Blocks
 pub mod RoundTrip
-pub mod Changed
 pub mod Determined
+pub mod Changed

@@ -1,5 +1,5 @@
 -- What was seen decides the outcome. Assumes nothing.
-use mathlib.Core.Path.{_≡_, refl, sym, ap, _∙_, subst}
+use mathlib.Core.Path.{_≡_, sym, ap, _∙_, subst}
 use mathlib.Core.Bool.{Bool, true, false, false≢true, _&&_, not, and-eq-true-iff}
 use lib.Dec.{eqb, leb}
 use borrow.Author.Tests.{eqb-true, leb-true, eq-eqb, le-leb, not-false}
@@ -13,9 +13,8 @@ use Rattle.code.specs.Vote.{voted}
 use Rattle.code.proofs.Majority.{length-voted}
 use Rattle.code.proofs.Accepted.{code-tested, accepts}
 use Rattle.block.specs.Bytes.{rowOf}
-use Rattle.block.specs.Words.{FiveWords, rowOfWords, zeroWords}
-use Rattle.block.specs.Nearest.{Searched}
-use Rattle.block.specs.Corrector.{NoneNear, Sized}
+use Rattle.block.specs.Words.{FiveWords, rowOfWords}
+use Rattle.block.specs.Corrector.{Near, NoneNear, Sized}
 
 -- both tests of the search passed
 pub close : (code : Bool) (n : ℕ) → (code && leb n mostCorrected) ≡ true → n ≤ mostCorrected
@@ -28,26 +27,20 @@ module _ (row word : List Bool) (code : Bool) (changed : List ℕ) (n : ℕ) (l 
   counts : n ≡ distance row word
   counts = counted ∙ ap ones places
 
-  pub no-word : (code && leb n mostCorrected) ≡ false → Searched row false word 0 zeroWords
-  no-word f = record { met = λ t. absurd (false≢true t); missed = λ _. (none, refl, refl) }
-    where
-      none : NoneNear row
-      none other w d =
-          let a = accepts row l .1 (other, w, d) in
-          let near : distance row word ≤ mostCorrected = subst (λ (x : List Bool). distance row x ≤ mostCorrected) (sym voting) (a .1) in
-          let close : n ≤ mostCorrected = omega (arith, counts) in
-          false≢true (sym f ∙ rw (tested, voting, a .0, le-leb n mostCorrected close))
+  pub no-word : (code && leb n mostCorrected) ≡ false → NoneNear row
+  no-word f other w d =
+      let a = accepts row l .1 (other, w, d) in
+      let near : distance row word ≤ mostCorrected = subst (λ (x : List Bool). distance row x ≤ mostCorrected) (sym voting) (a .1) in
+      let close : n ≤ mostCorrected = omega (arith, counts) in
+      false≢true (sym f ∙ rw (tested, voting, a .0, le-leb n mostCorrected close))
 
-  pub found : (code && leb n mostCorrected) ≡ true → Searched row true word n changed
+  pub found : (code && leb n mostCorrected) ≡ true → Near row word n changed
   found t = record {
-    met = λ _. record {
-      code = code-tested word (ap length voting ∙ length-voted row ∙ l) .0 (sym tested ∙ and-eq-true-iff code (leb n mostCorrected) .0 t .0);
-      near = omega (arith, close code n t, counts);
-      words = words;
-      places = places;
-      counts = counts;
-    };
-    missed = λ f. absurd (false≢true (sym f));
+    code = code-tested word (ap length voting ∙ length-voted row ∙ l) .0 (sym tested ∙ and-eq-true-iff code (leb n mostCorrected) .0 t .0);
+    near = omega (arith, close code n t, counts);
+    words = words;
+    places = places;
+    counts = counted;
   }
 
 -- a received block fills the row

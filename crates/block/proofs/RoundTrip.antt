@@ -1,7 +1,7 @@
 -- The block reader and the block writer undo each other. Assumes nothing.
-use mathlib.Core.Path.{_≡_, refl, sym, ap, _∙_, subst}
+use mathlib.Core.Path.{_≡_, sym, ap, _∙_, subst}
 use mathlib.Core.Bool.{Bool, true, false}
-use mathlib.Core.List.{List, [], _∷_, _++_}
+use mathlib.Core.List.{List, _++_}
 use mathlib.Core.Logic.{inl, inr}
 use Prim.Native.Nat.{ℕ, _≤_}
 use native.Mathlib.Omega.{arith}
@@ -10,10 +10,9 @@ use lib.Pow.{areBytes}
 use lib.Seq.{take-take, take-at, drop-at}
 use Rattle.answers.specs.declared.Answer.{Answer}
 use Rattle.answers.specs.Numbers.{accepted, paper}
-use Rattle.gf2.specs.Poly.{bit, Multiple, checkOf, systematic}
-use Rattle.gf2.proofs.Bits.{⊕-self}
+use Rattle.gf2.specs.Poly.{Multiple, checkOf, systematic}
 use Rattle.gf2.proofs.Remainders.{add-self, systematic-multiple}
-use Rattle.code.specs.Code.{generator, CodeWord, distance, mostCorrected}
+use Rattle.code.specs.Code.{generator, CodeWord, difference, ones, distance, mostCorrected}
 use Rattle.code.proofs.Computed.{generator-length}
 use Rattle.code.proofs.Majority.{code-length, only-word}
 use Rattle.block.specs.declared.Corrected.{Corrected}
@@ -81,21 +80,17 @@ changed-reads information block received before after r li written lr lb near bi
           subst (λ (w : List Bool). Near (rowOf received) w (r .count) (r .changed)) word (o .found),
         )
 
-distance-self : (row : List Bool) → distance row row ≡ 0
-distance-self [] = refl
-distance-self (b ∷ row) = omega (arith, distance-self row, ap bit (⊕-self b))
-
 -- WHAT IS WRITTEN READS BACK, with 0 corrected and no place changed
 pub written-reads : (information room block before after : List ℕ) (made : Answer) (r : Corrected) → Block information room block made → length before ≡ 22
     → areBytes information ≡ true → areBytes after ≡ true → Reads block before after r
     → (paper (r .answer) ≡ accepted) × (after ≡ information) × (r .count ≡ 0) × (r .changed ≡ zeroWords)
 written-reads information room block before after made r b lb bi ba o =
-    let none = distance-self (rowOf block) in
-    let read = changed-reads information block block before after r (b .sized .input) (b .written) (b .long) lb (omega arith) bi ba o in
     let long : length (rowOf block) ≡ 272 = length-bitsOf 8 block ∙ omega (arith, b .long) in
-    let row : rowOfWords (r .changed) ≡ rowOfWords zeroWords =
-    read .2 .places ∙ add-self (rowOf block) ∙ ap (λ (n : ℕ). replicate n false) long ∙ sym zero-row in
-    (read .0, read .1, read .2 .counts ∙ none, words-once (r .changed) zeroWords (read .2 .words) zero-five row)
+    let same : difference (rowOf block) (rowOf block) ≡ rowOfWords zeroWords = add-self (rowOf block) ∙ ap (λ (n : ℕ). replicate n false) long ∙ sym zero-row in
+    let none : distance (rowOf block) (rowOf block) ≡ 0 = ap ones (same ∙ zero-row) in
+    let read = changed-reads information block block before after r (b .sized .input) (b .written) (b .long) lb (omega arith) bi ba o in
+    let row = read .2 .places ∙ same in
+    (read .0, read .1, read .2 .counts ∙ ap ones (row ∙ zero-row), words-once (r .changed) zeroWords (read .2 .words) zero-five row)
 
 -- WHAT THE READER ACCEPTS, WRITTEN AGAIN, is the corrected code word
 pub read-again : (received before information room block out corrected : List ℕ) (read written : Corrected) (made : Answer) → Information received before information read

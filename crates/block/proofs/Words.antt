@@ -20,11 +20,11 @@ use Rattle.gf2.proofs.Lists.{length-rowFrom, getD-rowFrom}
 use Rattle.gf2.proofs.Remainders.{length-add}
 use Rattle.code.specs.Code.{ones, difference}
 use Rattle.code.specs.Vote.{bitAt}
-use Rattle.block.specs.Bytes.{bitOf, position, bitsOf}
+use Rattle.block.specs.Bytes.{bitOf, bitIn, bitsOf}
 use Rattle.block.specs.Words.{FiveWords, rowOfWords, zeroWords}
 use Rattle.block.proofs.Bytes.{length-bitsOf, getD-bitsOf, bitOf-zero, bitOf-half, lowest-bit, bits-once, numbers-once}
 
--- a list of nothing but what stands past its end
+-- every element of `replicate n a` is a, and what stands past its end
 same-at : {A : Type 0} (a : A) (n i : ℕ) → getD (replicate n a) i a ≡ a
 same-at a zero i = refl
 same-at a (suc n) zero = refl
@@ -96,7 +96,7 @@ bit-elsewhere b s k n =
 -- the places below p hold the values of f, and those from p on are zero
 abbrev pub Held : (ℕ → Bool) → List ℕ → ℕ → Type 0
 Held f ws p =
-    (length ws ≡ 5) × ((i : ℕ) → getD ws i 0 < 2 ^ 64) × ((j : ℕ) → j < p → position 64 ws j ≡ f j) × ((j : ℕ) → p ≤ j → position 64 ws j ≡ false)
+    (length ws ≡ 5) × ((i : ℕ) → getD ws i 0 < 2 ^ 64) × ((j : ℕ) → j < p → bitIn 64 ws j ≡ f j) × ((j : ℕ) → p ≤ j → bitIn 64 ws j ≡ false)
 
 pub held-none : (f : ℕ → Bool) → Held f (replicate 5 0) 0
 held-none f = (refl, zero-five .below, λ j l. absurd (omega arith), λ j l. ap (λ (w : ℕ). bitOf w (j % 64)) (same-at {A = ℕ} 0 5 (j / 64)) ∙ bitOf-zero (j % 64))
@@ -119,12 +119,12 @@ module _ (f : ℕ → Bool) (ws : List ℕ) (p x : ℕ) (h : p < 320) (e : x ≡
         | no q ↦ rw (getD-set-other ws (p / 64) i filled 0 q) (old .1 i)
       ]
 
-  here : position 64 (set ws (p / 64) filled) p ≡ f p
+  here : bitIn 64 (set ws (p / 64) filled) p ≡ f p
   here =
       ap (λ (w : ℕ). bitOf w (p % 64)) (getD-set-same ws (p / 64) filled 0 (omega (arith, old .0)))
       ∙ bits (p % 64) ∙ (λ i. old .3 p (omega arith) i || bit-there (f p) (p % 64) i)
 
-  elsewhere : (j : ℕ) → j ≢ p → position 64 (set ws (p / 64) filled) j ≡ position 64 ws j
+  elsewhere : (j : ℕ) → j ≢ p → bitIn 64 (set ws (p / 64) filled) j ≡ bitIn 64 ws j
   elsewhere j n =
       elim (ℕ-discrete (j / 64) (p / 64)) [
         | yes q ↦
@@ -140,7 +140,7 @@ module _ (f : ℕ → Bool) (ws : List ℕ) (p x : ℕ) (h : p < 320) (e : x ≡
     length-set ws (p / 64) filled ∙ old .0,
     below,
     λ j l. elim (ℕ-discrete j p) [
-      | yes q ↦ (λ i. position 64 (set ws (p / 64) filled) (q i)) ∙ here ∙ ap f (sym q)
+      | yes q ↦ (λ i. bitIn 64 (set ws (p / 64) filled) (q i)) ∙ here ∙ ap f (sym q)
       | no q ↦ elsewhere j q ∙ old .2 j (omega arith)
     ],
     λ j l. elsewhere j (λ q. omega arith) ∙ old .3 j (omega arith),
@@ -169,7 +169,7 @@ held-end row word ws p lr lw done held = (
     long : length (add row word) ≡ 272
     long = length-add row word ∙ lw
 
-    each : (j : ℕ) → position 64 ws j ≡ bitAt (add row word) j
+    each : (j : ℕ) → bitIn 64 ws j ≡ bitAt (add row word) j
     each j =
         elim (decLt j p) [
           | yes l ↦ held .2 j l ∙ bitAt-add row word j (lr ∙ sym lw)

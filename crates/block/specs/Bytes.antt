@@ -11,12 +11,12 @@ unfoldable pub bitOf : ℕ → ℕ → Bool
 bitOf number k = eqb (number / 2 ^ k % 2) 1
 
 -- Of numbers of `width` bits, position p is the bit of weight 2^(p mod width) in number p / width.
-abbrev pub position : (width : ℕ) → List ℕ → ℕ → Bool
-position width numbers p = bitOf (getD numbers (p / width) 0) (p % width)
+abbrev pub bitIn : (width : ℕ) → List ℕ → ℕ → Bool
+bitIn width numbers p = bitOf (getD numbers (p / width) 0) (p % width)
 
 -- all their positions, in one row
 unfoldable pub bitsOf : (width : ℕ) → List ℕ → List Bool
-bitsOf width numbers = rowFrom (position width numbers) 0 (width * length numbers)
+bitsOf width numbers = rowFrom (bitIn width numbers) 0 (width * length numbers)
 
 -- Position p is the bit of weight 2^(p mod 8) in byte p / 8.
 abbrev pub rowOf : List ℕ → List Bool

@@ -19,7 +19,7 @@ pub record Near (row word : List Bool) (count : ℕ) (changed : List ℕ) : Type
   pub near : distance row word ≤ mostCorrected
   pub words : FiveWords changed
   pub places : rowOfWords changed ≡ difference row word
-  pub counts : count ≡ ones (difference row word)
+  pub counts : count ≡ ones (rowOfWords changed)
 
 -- no code word differs in at most eight places
 abbrev pub NoneNear : List Bool → Type 0

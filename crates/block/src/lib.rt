@@ -1,7 +1,4 @@
 // Document 01, "The block": 272 bits in sending order, as 34 bytes.
-ghost use mathlib.Core.Path.{_≡_};
-ghost use Rattle.answers.specs.Numbers.{refused, paper};
-ghost use Rattle.block.specs.Words.{zeroWords};
 ghost use Rattle.block.specs.Corrector.{Corrects};
 ghost use Rattle.block.specs.Blocks.{Reads, Writes};
 
@@ -23,9 +20,11 @@ const CHECKED_BITS: usize = 190;
 
 const BLOCK_BITS: usize = 272;
 
-// A row of so many bits in words of 64: position p is the bit of weight 2^(p mod 64) in word p / 64, and the top 48 bits of
+// The 272 places of a block in words: position p is the bit of weight 2^(p mod 64) in word p / 64, and the top 48 bits of
 // the last are zero.
 pub const BLOCK_WORDS: usize = 5;
+
+const WORD_BITS: usize = 64;
 
 // What the corrector and the block reader answer: `changed` is the row of the places in which the code word differs from
 // what was received, and the count is the number of its ones.
@@ -41,23 +40,16 @@ pub struct Corrected {
 pub fn correct(received: &[u8], out: &mut [u8]) -> Corrected
     ensures { λ r. ⌜ Corrects (now (received .entry)) (now (out .entry)) (now (out .exit)) r ⌝ }
 {
-    if !((received.len() == BLOCK_BYTES) & (out.len() == BLOCK_BYTES)) {
-        return wrong_length();
-    }
-    let found = nearest::nearest(received);
+    let found = nearest::find(received, out, BLOCK_BYTES);
+    let answer = found.answer;
     let count = found.count;
     let changed = found.changed;
-    if !found.near {
-        return Corrected {
-            answer: Answer::Refused(Refusal::NoCodeWord),
-            count,
-            changed,
-        };
+    if found.near {
+        let word = found.word;
+        rows::fill_bytes(&word, out);
     }
-    let word = found.word;
-    rows::fill_bytes(&word, out);
     Corrected {
-        answer: Answer::Accepted,
+        answer,
         count,
         changed,
     }
@@ -69,30 +61,23 @@ pub fn correct(received: &[u8], out: &mut [u8]) -> Corrected
 pub fn read_block(received: &[u8], out: &mut [u8]) -> Corrected
     ensures { λ r. ⌜ Reads (now (received .entry)) (now (out .entry)) (now (out .exit)) r ⌝ }
 {
-    if !((received.len() == BLOCK_BYTES) & (out.len() == INFORMATION_BYTES)) {
-        return wrong_length();
-    }
-    let found = nearest::nearest(received);
+    let found = nearest::find(received, out, INFORMATION_BYTES);
+    let answer = found.answer;
     let count = found.count;
     let changed = found.changed;
-    if !found.near {
-        return Corrected {
-            answer: Answer::Refused(Refusal::NoCodeWord),
-            count,
-            changed,
-        };
+    if found.near {
+        let word = found.word;
+        if !check::holds(&word) {
+            return Corrected {
+                answer: Answer::Refused(Refusal::CheckBits),
+                count,
+                changed,
+            };
+        }
+        rows::fill_bytes(&word, out);
     }
-    let word = found.word;
-    if !check::holds(&word) {
-        return Corrected {
-            answer: Answer::Refused(Refusal::CheckBits),
-            count,
-            changed,
-        };
-    }
-    rows::fill_bytes(&word, out);
     Corrected {
-        answer: Answer::Accepted,
+        answer,
         count,
         changed,
     }
@@ -114,14 +99,4 @@ pub fn write_block(information: &[u8], out: &mut [u8]) -> Answer
     let word = check::append(checked, CHECKED_BITS, &generator);
     rows::fill_bytes(&word, out);
     Answer::Accepted
-}
-
-fn wrong_length() -> Corrected
-    ensures { λ r. ⌜ (paper (r .answer) ≡ refused 1) × (r .count ≡ 0) × (r .changed ≡ zeroWords) ⌝ }
-{
-    Corrected {
-        answer: Answer::Refused(Refusal::WrongLength),
-        count: 0,
-        changed: [0; BLOCK_WORDS],
-    }
 }

@@ -3,16 +3,20 @@ ghost use mathlib.Core.Path.{_≡_};
 ghost use mathlib.Core.Bool.{true, false};
 ghost use Prim.Native.Nat.{_<_};
 ghost use lib.ListN.{length};
+ghost use Rattle.answers.specs.Numbers.{refused, numberOf, paper};
 ghost use Rattle.gf2.specs.Poly.{allZero, remainder};
 ghost use Rattle.code.specs.Code.{difference, ones, generator};
 ghost use Rattle.code.specs.Vote.{bitAt, checkPositions, paritySum, paritySums, oddSums, voted};
-ghost use Rattle.block.specs.Bytes.{rowOf};
-ghost use Rattle.block.specs.Words.{FiveWords, rowOfWords};
-ghost use Rattle.block.specs.Nearest.{Searched};
+ghost use Rattle.block.specs.Words.{FiveWords, rowOfWords, zeroWords};
+ghost use Rattle.block.specs.Nearest.{Searched, Sought};
 use super::BLOCK_BITS;
+use super::BLOCK_BYTES;
 use super::BLOCK_WORDS;
+use super::WORD_BITS;
 use super::check;
 use super::rows;
+use answers::Answer;
+use answers::Refusal;
 
 // The circle on which the sums are shifted: the positions of a block, and behind them the left-off one.
 const CIRCLE: usize = 273;
@@ -26,9 +30,11 @@ const MAJORITY: usize = 9;
 // A code word that differs in more places is not taken.
 const MOST_CORRECTED: usize = 8;
 
-// What the search found: with `near` a code word, the places in which it differs and how many they are; else both are zero.
+// What was found for a received block: with `near` a code word, the places in which it differs and how many they are; else
+// why there is none, and places and number are zero.
 pub(crate) struct Found {
     pub near: bool,
+    pub answer: Answer,
     pub word: [bool; BLOCK_BITS],
     pub count: u8,
     pub changed: [u64; BLOCK_WORDS],
@@ -117,7 +123,7 @@ fn difference_of(row: &[bool; BLOCK_BITS], word: &[bool; BLOCK_BITS]) -> [u64; B
     let mut place: usize = 0;
     while place < BLOCK_BITS {
         let differs = gf2::number(gf2::sum(row[place], word[place]));
-        changed[place / 64] = changed[place / 64] | (differs << (place % 64));
+        changed[place / WORD_BITS] = changed[place / WORD_BITS] | (differs << (place % WORD_BITS));
         place += 1;
     }
     changed
@@ -140,34 +146,45 @@ fn ones_of(words: &[u64; BLOCK_WORDS]) -> usize
 // The vote alone may leave a row that is no code word, or turn more than eight bits; both are tested.
 fn search(row: &[bool; BLOCK_BITS]) -> Found
     requires { ⌜ length (now row) ≡ 272 ⌝ }
-    ensures { λ r. ⌜ Searched (now (row .entry)) (r .near) (r .word) (r .count) (r .changed) ⌝ }
+    ensures { λ r. ⌜ Searched (now (row .entry)) (r .near) (r .answer) (r .word) (r .count) (r .changed) ⌝ }
 {
     let word = vote(row);
     let changed = difference_of(row, &word);
-    let places = ones_of(&changed);
-    if is_code_word(&word) & (places <= MOST_CORRECTED) {
-        let count = places as u8;
+    let ones = ones_of(&changed);
+    if is_code_word(&word) & (ones <= MOST_CORRECTED) {
+        let count = ones as u8;
         return Found {
             near: true,
+            answer: Answer::Accepted,
             word,
             count,
             changed,
         };
     }
-    Found {
-        near: false,
-        word,
-        count: 0,
-        changed: [0; BLOCK_WORDS],
-    }
+    missed(Refusal::NoCodeWord)
 }
 
-// What the search finds for a received block.
-pub(crate) fn nearest(received: &[u8]) -> Found
-    requires { ⌜ length (now received) ≡ 34 ⌝ }
-    ensures { λ r. ⌜ Searched (rowOf (now (received .entry))) (r .near) (r .word) (r .count) (r .changed) ⌝ }
+// What is found for a received block, where it and the output have the lengths that are wanted.
+pub(crate) fn find(received: &[u8], out: &[u8], room: usize) -> Found
+    ensures { λ r. ⌜ Sought room (now (received .entry)) (now (out .entry)) (r .near) (r .answer) (r .word) (r .count) (r .changed) ⌝ }
 {
+    if !((received.len() == BLOCK_BYTES) & (out.len() == room)) {
+        return missed(Refusal::WrongLength);
+    }
     let mut row = [false; BLOCK_BITS];
     rows::fill_row(received, &mut row);
     search(&row)
+}
+
+// Of a refused block no place and no number is told, whatever the vote gave.
+fn missed(refusal: Refusal) -> Found
+    ensures { λ r. ⌜ (r .near ≡ false) × (paper (r .answer) ≡ refused (numberOf refusal)) × (r .count ≡ 0) × (r .changed ≡ zeroWords) ⌝ }
+{
+    Found {
+        near: false,
+        answer: Answer::Refused(refusal),
+        word: [false; BLOCK_BITS],
+        count: 0,
+        changed: [0; BLOCK_WORDS],
+    }
 }

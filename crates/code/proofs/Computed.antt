@@ -17,12 +17,12 @@ abbrev differenceSet : List ℕ → ℕ → Bool
 differenceSet ss v = eqb (occurs v (differences ss ss)) (seventeenOnce v)
 
 -- EACH NONZERO RESIDUE IS THE DIFFERENCE OF EXACTLY ONE ORDERED PAIR: of the residues as printed, and of the check positions
-pub difference-printed : (v : ℕ) → v < 273 → occurs v (differences residues residues) ≡ seventeenOnce v
-difference-printed v h = eqb→eq _ _ (tested 273 (differenceSet residues) tt v h)
+pub pair-printed : (v : ℕ) → v < 273 → occurs v (differences residues residues) ≡ seventeenOnce v
+pair-printed v h = eqb→eq _ _ (tested 273 (differenceSet residues) tt v h)
 
-pub difference-once : (v : ℕ) → v < 273 → occurs v (differences checkPositions checkPositions) ≡ seventeenOnce v
+pub pair-once : (v : ℕ) → v < 273 → occurs v (differences checkPositions checkPositions) ≡ seventeenOnce v
 unfolding checkPositions
-difference-once v h = eqb→eq _ _ (tested 273 (differenceSet checkPositions) tt v h)
+pair-once v h = eqb→eq _ _ (tested 273 (differenceSet checkPositions) tt v h)
 
 abbrev evenAt : List Bool → List ℕ → ℕ → Bool
 evenAt row cs t = not (parityOver (λ s. bitAt row ((t + s) % 273)) cs)

@@ -16,7 +16,7 @@ use Rattle.gf2.proofs.Remainders.{multiple-length}
 use Rattle.code.specs.Code.{generator, CodeWord, distance, mostCorrected}
 use Rattle.code.specs.Vote.{differences, bitAt, parityOver, sumOver, checkPositions, paritySum, paritySums, oddSums, majority, voted}
 use Rattle.code.proofs.Sums.{Below, In, in-below, sumTo, sumTo-turn, sumTo-distance, sumTo-le, sum-differences, sumOver-append, sumOver-map, sumOver-le, sumOver-cong, sumOver-add, sumOver-in, parity-sum, parityOver-⊕}
-use Rattle.code.proofs.Computed.{difference-once, positions-below, positions-twice, generator-length}
+use Rattle.code.proofs.Computed.{pair-once, positions-below, positions-twice, generator-length}
 use Rattle.code.proofs.Orthogonal.{code-even}
 
 -- differences are residues
@@ -54,7 +54,7 @@ module _ (e : ℕ → Bool) where
   unfolding wrongIn
   total p h =
       over-differences (λ v. bit (e v)) p checkPositions checkPositions positions-below
-      ∙ sum-differences 272 (λ v. bit (e ((p + v) % 273))) (differences checkPositions checkPositions) (differences-below checkPositions checkPositions) difference-once
+      ∙ sum-differences 272 (λ v. bit (e ((p + v) % 273))) (differences checkPositions checkPositions) (differences-below checkPositions checkPositions) pair-once
       ∙ omega (arith, sumTo-turn 273 (λ v. bit (e v)) p, ap (λ (m : ℕ). bit (e m)) same)
     where
       same : (p + 0) % 273 ≡ p

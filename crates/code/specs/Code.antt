@@ -14,7 +14,7 @@ generator = lower 82 (82 ∷ 77 ∷ 76 ∷ 71 ∷ 67 ∷ 66 ∷ 56 ∷ 52 ∷ 48
 abbrev pub CodeWord : List Bool → Type 0
 CodeWord row = Multiple generator 190 row
 
--- the places in which two rows differ: two bits are not the same where their sum is one
+-- the places in which two rows of one length differ: two bits are not the same where their sum is one
 abbrev pub difference : List Bool → List Bool → List Bool
 difference row word = add row word
 

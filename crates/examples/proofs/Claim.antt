@@ -19,7 +19,6 @@ use Rattle.block.specs.Words.{rowOfWords}
 use Rattle.block.specs.Corrector.{Near, Corrects}
 use Rattle.block.specs.Blocks.{checkDivisor, CheckRight, Reads}
 use Rattle.block.proofs.Bytes.{row-once, length-bitsOf}
-use Rattle.block.proofs.Words.{zero-row}
 use Rattle.header.specs.Header.{bits, check}
 use Rattle.channel.specs.Layer4.{sizeOf, blocksFor}
 use Rattle.channel.specs.State.{fresh, keepsRule, asWaiting, stepOf}
@@ -48,12 +47,12 @@ word-holds received corrected count row lr lc bc code away many near before afte
     outcome (inr (inr u)) =
         let same = only received corrected lr code close (u .found) in
         let places = ap (difference (rowOf received)) same ∙ away in
-        (u .answers, row-once after corrected ba bc (u .long ∙ sym lc) (u .written ∙ same), u .found .counts ∙ ap ones places ∙ many, u .found .places ∙ places)
+        (u .answers, row-once after corrected ba bc (u .long ∙ sym lc) (u .written ∙ same), u .found .counts ∙ ap ones (u .found .places ∙ places) ∙ many, u .found .places ∙ places)
 
 -- nine places away from a code word is refused
 noWord-holds : (received nine : List ℕ) → length received ≡ 34 → CodeWord (rowOf nine) → distance (rowOf received) (rowOf nine) ≡ 9 → Holds (noWord received)
 noWord-holds received nine lr code away before after r lb (inl u) = absurd (u .wrong (record { input = lr; output = lb }))
-noWord-holds received nine lr code away before after r lb (inr (inl u)) = (u .answers, u .same, u .counts, ap rowOfWords (u .places) ∙ zero-row)
+noWord-holds received nine lr code away before after r lb (inr (inl u)) = (u .answers, u .same, u .counts, u .places)
 noWord-holds received nine lr code away before after r lb (inr (inr u)) =
     absurd (nine-away (rowOf received) (rowOf nine) (length-bitsOf 8 received ∙ omega arith) code away (u .word) (u .found .code) (u .found .near))
 
@@ -70,7 +69,7 @@ wrongCheck-holds received lr code away wrong before after r lb = outcome
     outcome (inr (inl u)) = absurd (u .none (rowOf received) code close)
     outcome (inr (inr (inl u))) =
         let places = ap (difference (rowOf received)) (only received received lr code close (u .found)) ∙ away in
-        (u .answers, u .same, u .found .counts ∙ ap ones places, u .found .places ∙ places)
+        (u .answers, u .same, u .found .counts ∙ ap ones (u .found .places ∙ places), u .found .places ∙ places)
     outcome (inr (inr (inr u))) = absurd (wrong (subst CheckRight (only received received lr code close (u .found)) (u .right)))
 
 zero-code : CodeWord (rowOf (zeros 34))
@@ -121,16 +120,16 @@ ones-left (true ∷ row) (true ∷ whole) l within = omega (arith, ones-left row
 ones-left (false ∷ row) (true ∷ whole) l within = omega (arith, ones-left row whole (omega arith) (λ p. within (suc p)))
 ones-left (false ∷ row) (false ∷ whole) l within = omega (arith, ones-left row whole (omega arith) (λ p. within (suc p)))
 
-zeros-row : rowOf (zeros 34) ≡ noPlace
+zero-bytes : rowOf (zeros 34) ≡ noPlace
 unfolding bitsOf bitOf
-zeros-row = refl
+zero-bytes = refl
 
--- what is left of the generator: so far from it, and from the zero word so far as its ones are what is left of the 18
+-- the generator with some ones cleared: its difference from the zero word is itself, and its ones are those of the 18 that are left
 module _ (many : ℕ) (received : List ℕ) (c : Cleared many received) where
   from-zero : difference (rowOf received) (rowOf (zeros 34)) ≡ rowOf received
   from-zero =
       let long : 272 ≡ length (rowOf received) = sym (length-bitsOf 8 received ∙ omega (arith, c .long)) in
-      ap (difference (rowOf received)) (zeros-row ∙ ap (λ (n : ℕ). replicate n false) long) ∙ add-zeros (rowOf received)
+      ap (difference (rowOf received)) (zero-bytes ∙ ap (λ (n : ℕ). replicate n false) long) ∙ add-zeros (rowOf received)
 
   left : many + ones (rowOf received) ≡ 18
   left =

@@ -10,7 +10,7 @@ use Rattle.answers.specs.Numbers.{accepted, refused, paper}
 use Rattle.code.specs.Code.{generator, ones, distance}
 use Rattle.block.specs.declared.Corrected.{Corrected}
 use Rattle.block.specs.Bytes.{rowOf}
-use Rattle.block.specs.Words.{rowOfWords}
+use Rattle.block.specs.Words.{rowOfWords, zeroWords}
 use Rattle.block.specs.Corrector.{Corrects}
 use Rattle.block.specs.Blocks.{Reads}
 use Rattle.channel.specs.declared.Channel.{Channel}
@@ -101,7 +101,7 @@ GivesWord received corrected count row =
 abbrev pub GivesNoWord : (received : List ℕ) → Type 0
 GivesNoWord received =
     (before after : List ℕ) (r : Corrected) → length before ≡ 34 → Corrects received before after r
-    → (paper (r .answer) ≡ refused 2) × (after ≡ before) × (r .count ≡ 0) × (rowOfWords (r .changed) ≡ noPlace)
+    → (paper (r .answer) ≡ refused 2) × (after ≡ before) × (r .count ≡ 0) × (r .changed ≡ zeroWords)
 
 -- every outcome of the message writer for fields within their widths, a number from `least` to `most`, so many data bytes
 -- and room enough: accepted, with so many blocks

@@ -1,6 +1,8 @@
 -- `block::nearest::search`: the voted row is the word, where it passes both tests. Assumes nothing.
 use Rattle.block.proofs.Outcomes.{close, no-word, found}
 use native.Mathlib.Omega.{arith}
+use mathlib.Core.Bool.{false≢true}
+use mathlib.Core.Path.{refl, sym, _∙_}
 use borrow.Author.Needs.{needs}
 use Rattle.block.proofs.nearest.search.Statement.{statement}
 use Rattle.block.proofs.nearest.search.Tie as tie
@@ -26,17 +28,24 @@ returns c =
     let o = w .before .before in
     let d = o .before .before in
     let v = d .before .before in
-    found (v .before .args .row .now) (v .vote .result) (w .is-code-word .result) (d .difference-of .result) (o .ones-of .result) (v .before .pre) (v .vote .ensures)
-    (w .is-code-word .ensures) (d .difference-of .ensures .0) (d .difference-of .ensures .1) (o .ones-of .ensures) (c .if1 .taken)
+    let near = found (v .before .args .row .now) (v .vote .result) (w .is-code-word .result) (d .difference-of .result) (o .ones-of .result) (v .before .pre) (v .vote .ensures)
+    (w .is-code-word .ensures) (d .difference-of .ensures .0) (d .difference-of .ensures .1) (o .ones-of .ensures) (c .if1 .taken) in
+    record { met = λ _. (refl, near); missed = λ f. absurd (false≢true (sym f)) }
+
+missed-requires : tie.Need-missed-requires
+missed-requires c κs = search needs
 
 returns-2 : tie.Need-returns-2
 returns-2 c =
-    let w = c .before in
+    let m = c .missed .ensures in
+    let e = c .before in
+    let w = e .before in
     let o = w .before .before in
     let d = o .before .before in
     let v = d .before .before in
-    no-word (v .before .args .row .now) (v .vote .result) (w .is-code-word .result) (d .difference-of .result) (o .ones-of .result) (v .before .pre) (v .vote .ensures)
-    (w .is-code-word .ensures) (d .difference-of .ensures .0) (d .difference-of .ensures .1) (o .ones-of .ensures) (c .if1 .left)
+    let none = no-word (v .before .args .row .now) (v .vote .result) (w .is-code-word .result) (d .difference-of .result) (o .ones-of .result) (v .before .pre) (v .vote .ensures)
+    (w .is-code-word .ensures) (d .difference-of .ensures .0) (d .difference-of .ensures .1) (o .ones-of .ensures) (e .if1 .left) in
+    record { met = λ t. absurd (false≢true (sym (m .0) ∙ t)); missed = λ _. (none, m .1, m .2, m .3) }
 
 pub search-spec : {M : Type 1} → statement M
 search-spec =
@@ -48,4 +57,5 @@ search-spec =
     is-code-word-requires
     cast-count
     returns
+    missed-requires
     returns-2)
