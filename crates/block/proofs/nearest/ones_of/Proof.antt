@@ -45,7 +45,7 @@ loop-again c =
     let h = c .before .before in
     let s = h .before in (
       search needs,
-      omega (arith, ones-le 64 _ (c .before .before .before .pre .below (c .before .before .loop .i))),
+      omega (arith, ones-le 64 _ (s .pre .below (h .loop .i))),
       ones-turn (s .args .words .now) (h .loop .i) (h .loop .count) _ (omega (arith, s .pre .five)) (s .pre .below (h .loop .i)) (h .loop .inv .2),
     )
 
