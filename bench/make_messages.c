@@ -49,10 +49,12 @@ static void make_blocks(void) {
     }
 }
 
+// One in eight comes again, and of these one in eight once more.
 static void put_message(int ri, int ci, int flags, int number, int length) {
     u8 record[RECORD] = {ri, ci, flags, number & 255, number >> 8, length & 255, length >> 8};
     for (int i = DATA_AT; i < RECORD; i++) record[i] = below(256);
-    put(record, RECORD);
+    do put(record, RECORD);
+    while (below(8) == 0);
 }
 
 // A message of a series: one in 256 is lost, and one each has a field over its width, too much data, COM or another

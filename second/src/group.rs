@@ -2,6 +2,7 @@
 
 use crate::answers::*;
 use crate::message::{LARGEST_DATA, LARGEST_GROUP, LARGEST_NUMBER};
+use std::ops::RangeInclusive;
 
 pub const MOST_MESSAGES: u8 = 15;
 
@@ -11,11 +12,13 @@ pub struct Group {
     pub gathering: bool,
     pub held: u32,
     pub messages: u8,
+    /// CI and data length of the message last joined on.
     pub ci: u8,
+    pub last_length: u32,
 }
 
 /// A message handed to a group. The fields may be over their width.
-#[derive(Clone, Debug)]
+#[derive(Clone, Debug, PartialEq)]
 pub struct Incoming {
     pub ri: u8,
     pub ci: u8,
@@ -29,6 +32,7 @@ pub struct Incoming {
 #[derive(Debug, PartialEq)]
 pub enum Join {
     Taken,
+    Repeat,
     Group(u32),
     Refused(u8),
 }
@@ -41,6 +45,7 @@ impl Group {
             held: 0,
             messages: 0,
             ci: 0,
+            last_length: 0,
         }
     }
 
@@ -59,8 +64,38 @@ impl Group {
         if !self.gathering {
             return *self == Group::idle(self.number);
         }
-        let most_held = LARGEST_DATA as u32 * u32::from(self.messages);
-        (1..=MOST_MESSAGES).contains(&self.messages) && self.held <= most_held && self.ci <= 3
+        (1..=MOST_MESSAGES).contains(&self.messages)
+            && self.ci <= 3
+            && self.last_lengths().contains(&self.last_length)
+    }
+
+    /// The lengths the message last joined on may have. The messages before it hold any number of
+    /// bytes up to 255 each, and it holds the rest: all where none came before. There is no such
+    /// length where more is held than all of them can hold.
+    fn last_lengths(&self) -> RangeInclusive<u32> {
+        let most = LARGEST_DATA as u32;
+        let most_before = most * u32::from(self.messages.saturating_sub(1));
+        self.held.saturating_sub(most_before)..=self.held.min(most)
+    }
+
+    /// The message last joined on, as it comes when it is sent again with this RI. All else
+    /// follows from the state, which keeps the rule, and its data is what now stands at its place.
+    fn sent_again(&self, ri: u8, buffer: &[u8]) -> Option<Incoming> {
+        if !self.gathering {
+            return None;
+        }
+        let end = self.held as usize;
+        let start = end - self.last_length as usize;
+        Some(Incoming {
+            ri,
+            ci: self.ci,
+            // Only a group's first message is a First, and a Last would have ended the group.
+            first: self.messages == 1,
+            last: false,
+            number: self.number,
+            com: false,
+            data: buffer[start..end].to_vec(),
+        })
     }
 
     pub fn join(&mut self, message: &Incoming, buffer: &mut [u8]) -> Join {
@@ -72,6 +107,9 @@ impl Group {
         }
         if message.number != self.number || message.com {
             return Join::Refused(NOT_THIS_GROUP);
+        }
+        if self.sent_again(message.ri, buffer).as_ref() == Some(message) {
+            return Join::Repeat;
         }
         if message.first {
             *self = Group::idle(self.number);
@@ -106,6 +144,7 @@ impl Group {
         self.held = end as u32;
         self.messages += 1;
         self.ci = message.ci;
+        self.last_length = message.data.len() as u32;
         Join::Taken
     }
 }

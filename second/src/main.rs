@@ -1,7 +1,7 @@
 //! The second program: the probe's notation answered another way.
 //!
-//! Written from document 01 and docs/PROBE.md alone, without a look at the proved program, so
-//! that a fault of one is not a fault of the other. `second/README.md` says what is where.
+//! Written from documents 01 and 02 and docs/PROBE.md alone, without a look at the proved program,
+//! so that a fault of one is not a fault of the other. `second/README.md` says what is where.
 
 mod answers;
 mod block;

@@ -53,8 +53,7 @@ impl<'a> Arguments<'a> {
     }
 
     pub fn bytes(&mut self) -> Option<Vec<u8>> {
-        self.log()
-            .filter(|bytes| bytes.len() <= LONGEST_ARGUMENT)
+        self.log().filter(|bytes| bytes.len() <= LONGEST_ARGUMENT)
     }
 
     fn number(&mut self, bound: u64) -> Option<u64> {
@@ -127,6 +126,7 @@ impl<'a> Arguments<'a> {
             held: self.word()?,
             messages: self.byte()?,
             ci: self.byte()?,
+            last_length: self.word()?,
         })
     }
 
@@ -258,6 +258,7 @@ impl Line {
             .number(group.held)
             .number(group.messages)
             .number(group.ci)
+            .number(group.last_length)
     }
 
     pub fn incoming(self, message: &Incoming) -> Line {

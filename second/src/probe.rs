@@ -149,6 +149,7 @@ fn join(arguments: &mut Arguments) -> Option<Line> {
     arguments.end()?;
     let line = match group.join(&message, &mut buffer) {
         Join::Taken => Line::new("taken"),
+        Join::Repeat => Line::new("repeat"),
         Join::Group(length) => Line::new("group").number(length),
         Join::Refused(answer) => Line::refused(answer),
     };

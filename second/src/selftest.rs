@@ -9,7 +9,7 @@ mod survey;
 /// Nothing, or what was found wrong.
 type Outcome = Result<(), String>;
 
-const TESTS: [(&str, fn() -> Outcome); 18] = [
+const TESTS: [(&str, fn() -> Outcome); 20] = [
     ("the field multiplies as polynomials do", blocks::field),
     ("the generator has seventeen roots in a row", blocks::roots),
     (
@@ -34,6 +34,11 @@ const TESTS: [(&str, fn() -> Outcome); 18] = [
     ("headers have the published bytes", messages::published),
     ("messages read back", messages::messages_read_back),
     ("groups read back", messages::groups_read_back),
+    ("repeats add nothing to a group", messages::repeats),
+    (
+        "lengths are right where messages can have them",
+        messages::lengths,
+    ),
     ("logs give the counts they were made from", survey::logs),
     (
         "counts are possible where a small log has them",
@@ -42,7 +47,10 @@ const TESTS: [(&str, fn() -> Outcome); 18] = [
     ("exact decimals are exact", survey::decimals),
     ("channels and kilohertz belong together", survey::channels),
     ("cases are cases and bad lines are none", lines::cases),
-    ("a refusal leaves what was lent", lines::refusals),
+    (
+        "a refusal or a repeat leaves what was lent",
+        lines::refusals,
+    ),
 ];
 
 /// Whether all went well; a line on standard output for each test.

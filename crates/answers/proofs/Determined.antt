@@ -15,13 +15,13 @@ pub number-once : (refusal : Refusal) (r s : ℕ) → r ≡ numberOf refusal →
 number-once refusal r s p q = p ∙ sym q
 
 -- the refusal of a number of the table; no number 0 is given
-refusalOf : ℕ → Refusal
+pub refusalOf : ℕ → Refusal
 refusalOf n =
     getD
     (WrongLength ∷ WrongLength ∷ NoCodeWord ∷ CheckBits ∷ HeaderCheck ∷ OtherChannel ∷ HeaderForm ∷ CountOrPadding ∷ OutOfStep ∷ TooMany ∷ TooShort ∷ OutsideRule ∷ BadLine ∷ NotThisGroup ∷ TooLong ∷ [])
     n TooLong
 
-undone : (a : Refusal) → refusalOf (numberOf a) ≡ a
+pub undone : (a : Refusal) → refusalOf (numberOf a) ≡ a
 unfolding refusalOf
 undone WrongLength = refl
 undone NoCodeWord = refl

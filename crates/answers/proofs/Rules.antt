@@ -1,6 +1,6 @@
--- Laws of tests in order. Assumes nothing.
+-- Laws of tests in order, and of the test that two flags are the same. Assumes nothing.
 use mathlib.Core.Path.{_≡_, refl}
-use mathlib.Core.Bool.{Bool, true, false, cond, _&&_}
+use mathlib.Core.Bool.{Bool, true, false, cond, _&&_, Bool·beq, false≢true}
 use Rattle.answers.specs.Rules.{unless}
 
 -- two tests with one answer are one test
@@ -21,3 +21,13 @@ cond-with P false px py = py refl
 pub unless-passed : {A : Type 0} (P : A → Type 0) (b : Bool) (x y : A) → (P x → ⊥) → P (unless b x y) → (b ≡ true) × P y
 unless-passed P true x y never p = (refl, p)
 unless-passed P false x y never p = absurd (never p)
+
+pub beq-refl : (s : Bool) → Bool·beq s s ≡ true
+beq-refl true = refl
+beq-refl false = refl
+
+pub beq-true : (s t : Bool) → Bool·beq s t ≡ true → s ≡ t
+beq-true true true e = refl
+beq-true true false e = absurd (false≢true e)
+beq-true false true e = absurd (false≢true e)
+beq-true false false e = refl

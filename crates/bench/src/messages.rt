@@ -16,6 +16,9 @@ const DATA_AT: usize = 8;
 // The group's service number.
 const NUMBER: u16 = 1000;
 
+// What a repeat adds to the sum: no group is so long.
+const REPEATED: u64 = 3826;
+
 pub(crate) fn fresh() -> Group {
     let made = Group::new(NUMBER);
     let group = made.group;
@@ -58,6 +61,7 @@ fn data_end(message: &[u8]) -> usize
 pub(crate) fn told(sum: u64, answer: Step) -> u64 {
     match answer {
         Step::Taken => records::add(sum, 0),
+        Step::Repeat => records::add(sum, REPEATED),
         Step::Whole(length) => records::add(sum, length as u64),
         Step::Refused(refusal) => records::add(sum, answers::number(refusal) as u64),
     }
@@ -65,8 +69,9 @@ pub(crate) fn told(sum: u64, answer: Step) -> u64 {
 
 // The phase follows from the answers.
 pub(crate) fn add_counts(sum: u64, group: Group) -> u64 {
+    let counts = records::add(records::add(sum, group.held as u64), group.messages as u64);
     records::add(
-        records::add(records::add(sum, group.held as u64), group.messages as u64),
-        group.ci as u64,
+        records::add(counts, group.ci as u64),
+        group.last_length as u64,
     )
 }

@@ -8,8 +8,8 @@ use lib.Dec.{eqb, ltb}
 use lib.ListN.{length}
 use Rattle.answers.specs.Rules.{unless}
 use Rattle.channel.specs.declared.Fields.{Fields}
-use Rattle.group.specs.Answers.{refused, GroupAfter, groupAfter}
-use Rattle.group.specs.State.{idle, keepsRule, messageFits, isIdle, joinedOn, joinOf}
+use Rattle.group.specs.Answers.{repeat, refused, GroupAfter, groupAfter}
+use Rattle.group.specs.State.{idle, keepsRule, messageFits, isIdle, isRepeat, joinedOn, joinOf}
 use Rattle.group.specs.declared.Group.{Group}
 
 -- two tests with one answer, as one on either
@@ -19,14 +19,15 @@ either true false x y = refl
 either false k x y = refl
 
 module _ (g : Group) (m : Fields) (s buffer : List ℕ) where
-  -- by First, by the phase, by CI and by the number of messages
+  -- a repeat; then by First, by the phase, by CI and by the number of messages
   abbrev onward : GroupAfter
   onward =
-      cond (m .first) (joinedOn (idle (g .number)) m s buffer)
+      cond (isRepeat g m s buffer) (groupAfter repeat g buffer)
+      (cond (m .first) (joinedOn (idle (g .number)) m s buffer)
       (unless (not (isIdle (g .phase))) (groupAfter (refused 8) (idle (g .number)) buffer)
       (unless (eqb (m .ci) ((g .ci + 1) % 4)) (groupAfter (refused 8) (idle (g .number)) buffer)
       (unless (ltb (g .messages) 15) (groupAfter (refused 9) (idle (g .number)) buffer)
-      (joinedOn g m s buffer))))
+      (joinedOn g m s buffer)))))
 
   pub short : length buffer < 3825 → groupAfter (refused 10) g buffer ≡ joinOf g m s buffer
   unfolding joinOf
@@ -51,20 +52,24 @@ module _ (g : Group) (m : Fields) (s buffer : List ℕ) where
         other e = sym (by-number ∙ rw e)
 
         module _ (ours : (not (eqb (m .number) (g .number)) || m .command) ≡ false) where
-          pub begins : m .first ≡ true → joinedOn (idle (g .number)) m s buffer ≡ joinOf g m s buffer
-          begins e = sym (by-number ∙ rw (ours, e))
+          pub once-more : isRepeat g m s buffer ≡ true → groupAfter repeat g buffer ≡ joinOf g m s buffer
+          once-more e = sym (by-number ∙ rw (ours, e))
 
-          module _ (later : m .first ≡ false) (w : Bool) (phase : w ≡ isIdle (g .phase)) where
-            pub still-idle : w ≡ true → groupAfter (refused 8) (idle (g .number)) buffer ≡ joinOf g m s buffer
-            still-idle e = sym (by-number ∙ rw (ours, later, sym phase ∙ e))
+          module _ (new : isRepeat g m s buffer ≡ false) where
+            pub begins : m .first ≡ true → joinedOn (idle (g .number)) m s buffer ≡ joinOf g m s buffer
+            begins e = sym (by-number ∙ rw (ours, new, e))
 
-            module _ (gathers : w ≡ false) where
-              pub out-of-step : (m .ci ≡ (g .ci + 1) % 4 → ⊥) → groupAfter (refused 8) (idle (g .number)) buffer ≡ joinOf g m s buffer
-              out-of-step n = sym (by-number ∙ rw (ours, later, sym phase ∙ gathers, ne-eqb _ _ n))
+            module _ (later : m .first ≡ false) (w : Bool) (phase : w ≡ isIdle (g .phase)) where
+              pub still-idle : w ≡ true → groupAfter (refused 8) (idle (g .number)) buffer ≡ joinOf g m s buffer
+              still-idle e = sym (by-number ∙ rw (ours, new, later, sym phase ∙ e))
 
-              module _ (ci : m .ci ≡ (g .ci + 1) % 4) where
-                pub too-many : 15 ≤ g .messages → groupAfter (refused 9) (idle (g .number)) buffer ≡ joinOf g m s buffer
-                too-many l = sym (by-number ∙ rw (ours, later, sym phase ∙ gathers, eq-eqb _ _ ci, le-ltb _ _ l))
+              module _ (gathers : w ≡ false) where
+                pub out-of-step : (m .ci ≡ (g .ci + 1) % 4 → ⊥) → groupAfter (refused 8) (idle (g .number)) buffer ≡ joinOf g m s buffer
+                out-of-step n = sym (by-number ∙ rw (ours, new, later, sym phase ∙ gathers, ne-eqb _ _ n))
 
-                pub joins : g .messages < 15 → joinedOn g m s buffer ≡ joinOf g m s buffer
-                joins l = sym (by-number ∙ rw (ours, later, sym phase ∙ gathers, eq-eqb _ _ ci, lt-ltb _ _ l))
+                module _ (ci : m .ci ≡ (g .ci + 1) % 4) where
+                  pub too-many : 15 ≤ g .messages → groupAfter (refused 9) (idle (g .number)) buffer ≡ joinOf g m s buffer
+                  too-many l = sym (by-number ∙ rw (ours, new, later, sym phase ∙ gathers, eq-eqb _ _ ci, le-ltb _ _ l))
+
+                  pub joins : g .messages < 15 → joinedOn g m s buffer ≡ joinOf g m s buffer
+                  joins l = sym (by-number ∙ rw (ours, new, later, sym phase ∙ gathers, eq-eqb _ _ ci, lt-ltb _ _ l))

@@ -9,8 +9,8 @@ use lib.Dec.{eqb, leb, ltb}
 use lib.ListN.{length, take, length-append}
 use lib.Seq.{paste, take-paste, take-length, length-take-le}
 use Rattle.answers.specs.Rules.{stateLeft}
-use Rattle.group.specs.Answers.{Outcome, taken, whole, refused, GroupAfter}
-use Rattle.group.specs.State.{idle, keepsRule, messageFits, isIdle, joinedOn, joinOf}
+use Rattle.group.specs.Answers.{Outcome, taken, repeat, whole, refused, GroupAfter}
+use Rattle.group.specs.State.{idle, keepsRule, messageFits, isIdle, isRepeat, joinedOn, joinOf}
 use Rattle.group.specs.Leading.{Message, GroupAndBuffer, JoinResult, toldResult, joinMessage, leftBy, Joins, joinedTo, changesNothing, joinedAfter, joinedBy, Leads}
 use Rattle.group.specs.declared.Group.{Group}
 use Rattle.answers.proofs.Rules.{unless-elim, cond-with}
@@ -34,6 +34,7 @@ module _ (g : Group) (buffer : List ℕ) (m : Message) where
   -- what each answer tells of the state and of the buffer left, with the data joined on
   abbrev Tells : List ℕ → Outcome → GroupAndBuffer → Type 0
   Tells joined taken left = Counts left joined
+  Tells joined repeat left = (left .group ≡ g) × (left .buffer ≡ buffer)
   Tells joined (whole n) left = (n ≡ length joined) × (take n (left .buffer) ≡ joined) × (left .group ≡ idle (g .number))
   Tells joined (refused n) left = (left .group ≡ cond (changesNothing n) g (idle (g .number))) × (left .buffer ≡ buffer)
 
@@ -58,6 +59,7 @@ module _ (g : Group) (buffer : List ℕ) (m : Message) where
       unless-elim (Told d) (messageFits (m .fields) (length (m .bytes))) _ _ (refl, refl) λ _.
       unless-elim (Told d) (eqb (m .fields .number) (g .number)) _ _ (refl, refl) λ _.
       unless-elim (Told d) (not (m .fields .command)) _ _ (refl, refl) λ _.
+      cond-with (Told d) (isRepeat g (m .fields) (m .bytes) buffer) (λ _. (refl, refl)) λ _.
       cond-with (Told d) (m .fields .first) (λ first. rw first (joined-told (idle (g .number)) refl (omega arith)))
       λ first. rw first
       (let e = take (g .held) buffer ++ m .bytes in
@@ -73,6 +75,12 @@ module _ (g : Group) (buffer : List ℕ) (m : Message) where
       let d = joinedTo (take (g .held) buffer) m in
       subst (λ (o : Outcome). Tells d o (leftBy (toldResult j))) e (subst (Told d) (sym did) told)
 
+  -- A REPEAT CHANGES NOTHING
+  pub repeat-changes-nothing : (j : JoinResult) → toldResult j ≡ joinOf g (m .fields) (m .bytes) buffer → toldResult j .answer ≡ repeat → (j .stepped .group ≡ g) × (j .buffer ≡ buffer)
+  repeat-changes-nothing j did e =
+      let d = joinedTo (take (g .held) buffer) m in
+      subst (λ (o : Outcome). Tells d o (leftBy (toldResult j))) e (subst (Told d) (sym did) told)
+
 -- ---- a run of messages
 
 module _ (s : GroupAndBuffer) (joined : List ℕ) (c : Counts s joined) where
@@ -83,6 +91,7 @@ module _ (s : GroupAndBuffer) (joined : List ℕ) (c : Counts s joined) where
 
   counts-after : (m : Message) (o : Outcome) (left : GroupAndBuffer) → Tells (s .group) (s .buffer) m (joinedTo joined m) o left → Counts left (joinedAfter o joined m)
   counts-after m taken left t = t
+  counts-after m repeat left t = counts-kept true left (t .0) (t .1)
   counts-after m (whole n) left t = (ap (λ (g : Group). g .held) (t .2), refl)
   counts-after m (refused n) left t = counts-kept (changesNothing n) left (t .0) (t .1)
 

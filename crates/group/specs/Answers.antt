@@ -5,16 +5,18 @@ use Rattle.answers.specs.Numbers.{numberOf, Paper}
 use Rattle.group.specs.declared.Group.{Group}
 use Rattle.group.specs.declared.Stepped.{Stepped}
 use Rattle.group.specs.declared.Step.{Step}
-use Rattle.group.specs.declared.Step.the-variants.{Taken, Whole, Refused}
+use Rattle.group.specs.declared.Step.the-variants.{Taken, Repeat, Whole, Refused}
 
--- "taken"; "group" with its length; or a number of the table
+-- "taken"; "repeat"; "group" with its length; or a number of the table
 pub data Outcome : Type 0 where
   taken : Outcome
+  repeat : Outcome
   whole : ℕ → Outcome
   refused : ℕ → Outcome
 
 abbrev pub outcome : Step → Outcome
 outcome Taken = taken
+outcome Repeat = repeat
 outcome (Whole length) = whole length
 outcome (Refused refusal) = refused (numberOf refusal)
 

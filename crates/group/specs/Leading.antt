@@ -8,7 +8,7 @@ use lib.Dec.{eqb}
 use lib.ListN.{length, take}
 use Rattle.answers.specs.Rules.{Run}
 use Rattle.channel.specs.declared.Fields.{Fields}
-use Rattle.group.specs.Answers.{Outcome, taken, whole, refused, GroupAfter, toldJoin}
+use Rattle.group.specs.Answers.{Outcome, taken, repeat, whole, refused, GroupAfter, toldJoin}
 use Rattle.group.specs.State.{joinOf}
 use Rattle.group.specs.declared.Group.{Group}
 use Rattle.group.specs.declared.Stepped.{Stepped}
@@ -49,10 +49,11 @@ joinedTo joined m = cond (m .fields .first) (m .bytes) (joined ++ m .bytes)
 abbrev pub changesNothing : ℕ → Bool
 changesNothing n = eqb n 10 || eqb n 11 || eqb n 13
 
--- the joined data after a message, by its answer: "taken", its own is joined on; "group", the state is idle and there is none; refused with 10, 11 or
--- 13, it is as before; with 8 or 9 the state is idle
+-- the joined data after a message, by its answer: "taken", its own is joined on; "repeat", it is as before; "group", the state is idle and there is
+-- none; refused with 10, 11 or 13, it is as before; with 8 or 9 the state is idle
 abbrev pub joinedAfter : Outcome → List ℕ → Message → List ℕ
 joinedAfter taken joined m = joinedTo joined m
+joinedAfter repeat joined m = joined
 joinedAfter (whole n) joined m = []
 joinedAfter (refused n) joined m = cond (changesNothing n) joined []
 

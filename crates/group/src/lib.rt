@@ -17,13 +17,15 @@ pub enum Phase {
     Gathering,
 }
 
-// A group of one service number: the bytes held and the messages joined so far, and the CI of the last of them.
+// A group of one service number: the bytes held and the messages joined so far, and of the message last joined on its CI
+// and the length of its data.
 pub struct Group {
     pub number: u16,
     pub phase: Phase,
     pub held: usize,
     pub messages: u8,
     pub ci: u8,
+    pub last_length: usize,
 }
 
 // The answer to being asked for a state, and the state.
@@ -35,6 +37,7 @@ pub struct Made {
 // `Whole` is the answer "group", with the group's length.
 pub enum Step {
     Taken,
+    Repeat,
     Whole(usize),
     Refused(Refusal),
 }
@@ -70,8 +73,9 @@ impl Group {
 
     // Takes one message, its fields and its data. Refused, with the state as it stood: a buffer shorter than 3,825
     // bytes (10); a state outside its rule, a field over its width or data over 255 bytes (11); another service number
-    // or COM (13). Then by First and CI: 8 or 9, with the state idle; or the data is joined on, "taken" or "group".
-    // A refusal changes no byte of the buffer, a joining those of its data.
+    // or COM (13). The message last joined on, once more, is a "repeat" and changes nothing. Then by First and CI: 8 or
+    // 9, with the state idle; or the data is joined on, "taken" or "group". A refusal changes no byte of the buffer, a
+    // joining those of its data.
     pub fn join(self, message: Fields, data: &[u8], buffer: &mut [u8]) -> Stepped
         ensures { λ r. ⌜ toldJoin r (now (buffer .exit)) ≡ joinOf self message (now («data» .entry)) (now (buffer .entry)) ⌝ }
     {
@@ -86,6 +90,12 @@ impl Group {
         }
         if (message.number != self.number) | message.command {
             return state::refused(Refusal::NotThisGroup, self);
+        }
+        if state::is_repeat(self, message, data, buffer) {
+            return Stepped {
+                answer: Step::Repeat,
+                group: self,
+            };
         }
         if message.first {
             return state::join_on(state::idle(self.number), message, data, buffer);

@@ -5,7 +5,7 @@ ghost use Prim.Native.Nat.{ℕ, _+_, _<_, _≤_};
 ghost use lib.ListN.{length};
 ghost use Rattle.answers.specs.Numbers.{numberOf};
 ghost use Rattle.group.specs.Answers.{refused, groupAfter, toldJoin};
-ghost use Rattle.group.specs.State.{idle, keepsRule, messageFits, isIdle, joinedOn};
+ghost use Rattle.group.specs.State.{idle, lengthHolds, keepsRule, messageFits, isIdle, isRepeat, joinedOn};
 use crate::Group;
 use crate::Phase;
 use crate::Step;
@@ -24,6 +24,7 @@ pub(crate) fn idle(number: u16) -> Group
         held: 0,
         messages: 0,
         ci: 0,
+        last_length: 0,
     }
 }
 
@@ -50,17 +51,33 @@ pub(crate) fn keeps_rule(group: Group) -> bool
     let phase = group.phase;
     let held = group.held;
     let messages = group.messages;
+    let length = group.last_length;
     let numbered = group.number <= LAST_NUMBER;
     match phase {
-        Phase::Idle => numbered & ((held == 0) & (messages == 0) & (group.ci == 0)),
+        Phase::Idle => numbered & ((held == 0) & (messages == 0) & (group.ci == 0) & (length == 0)),
         Phase::Gathering => {
             numbered
                 & ((1 <= messages)
                     & (messages <= Group::MOST_MESSAGES)
                     & (held <= MOST_DATA * (messages as usize))
-                    & (group.ci <= 3))
+                    & (group.ci <= 3)
+                    & length_holds(held, messages, length))
         }
     }
+}
+
+// Whether the message last joined on may have so many of the bytes held.
+fn length_holds(held: usize, messages: u8, length: usize) -> bool
+    ensures { λ r. ⌜ r ≡ lengthHolds held messages length ⌝ }
+{
+    if messages <= 1 {
+        return length == held;
+    }
+    if held < length {
+        return false;
+    }
+    let before = messages - 1;
+    (length <= MOST_DATA) & (held - length <= MOST_DATA * (before as usize))
 }
 
 // Whether a message is within its widths.
@@ -77,6 +94,25 @@ pub(crate) fn is_idle(phase: Phase) -> bool
         Phase::Idle => true,
         Phase::Gathering => false,
     }
+}
+
+// Whether a message is the one last joined on, once more: that was a First where it is the only one, and no Last. Its
+// data is looked at last, since a message that steps on has another CI.
+pub(crate) fn is_repeat(group: Group, message: Fields, data: &[u8], buffer: &[u8]) -> bool
+    requires { ⌜ (group .«last_length» ≤ group .held) × (group .held ≤ length (now buffer)) ⌝ }
+    ensures { λ r. ⌜ r ≡ isRepeat group message (now («data» .entry)) (now (buffer .entry)) ⌝ }
+{
+    let phase = group.phase;
+    let same_fields = !is_idle(phase)
+        & (message.ci == group.ci)
+        & (message.first == (group.messages == 1))
+        & !message.last;
+    if !same_fields {
+        return false;
+    }
+    let end = group.held;
+    let start = end - group.last_length;
+    text::same(data, &buffer[start..end])
 }
 
 // Writes the data at the counted place. With Last the group is whole.
@@ -99,6 +135,7 @@ pub(crate) fn join_on(group: Group, message: Fields, data: &[u8], buffer: &mut [
         held: end,
         messages: group.messages + 1,
         ci: message.ci,
+        last_length: data.len(),
     };
     Stepped {
         answer: Step::Taken,

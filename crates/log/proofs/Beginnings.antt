@@ -14,7 +14,8 @@ use Rattle.log.specs.declared.Phase.the-variants.{Refused}
 use Rattle.log.specs.Log.{firstLine, slotLine, slotLines, logText, allOutcomes, counted, countsFrom, tuned, last, channelUpTo, isNext, judged}
 use Rattle.log.specs.Reader.{between, afterLine, isPlain}
 use Rattle.log.specs.Beginning.{Beginning, nothing, lines, textOf, isGood, countsOf, GoodLine}
-use Rattle.log.proofs.Lists.{by-cases, same-true}
+use Rattle.text.proofs.Laws.{same-true}
+use Rattle.log.proofs.Lists.{by-cases}
 use Rattle.log.proofs.Lines.{channel-line}
 use Rattle.log.proofs.Outcomes.{next, channel-most}
 use Rattle.log.proofs.Written.{channel-found, first-plain, slot-plain, next-is, all-snoc, counts-channel}

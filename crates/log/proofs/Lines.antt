@@ -1,7 +1,7 @@
 -- What a line is compared with, part by part. Assumes nothing.
 use Prim.Native.Nat.{ℕ, suc, zero, _+_, _-_, _/_, _%_, _^_, _<_, _≤_}
 use mathlib.Core.Path.{_≡_, refl, ap, sym, _∙_}
-use Rattle.text.proofs.Laws.{other-length}
+use Rattle.text.proofs.Laws.{other-length, same-true}
 use mathlib.Core.Bool.{Bool, true, false, _&&_, and-true}
 use mathlib.Core.List.{List, [], _∷_, _++_, append-assoc}
 use native.Mathlib.Omega.{arith}
@@ -13,7 +13,7 @@ use Rattle.text.specs.Fields.{sameAs}
 use Rattle.log.specs.Decimal.{decimal}
 use Rattle.text.specs.Ascii.{tab}
 use Rattle.log.specs.Log.{firstLine, slotLine, last, channelUpTo}
-use Rattle.log.proofs.Lists.{cond-with, same-snoc, same-none, same-append, same-true, take-last}
+use Rattle.log.proofs.Lists.{cond-with, same-snoc, same-none, same-append, take-last}
 use Rattle.log.proofs.Decimal.{decimal-few, decimal-more}
 
 -- the last digit, and the digits before it

@@ -1,14 +1,13 @@
 -- Laws of tests, and of texts that are the same. Assumes nothing.
 use Prim.Native.Nat.{ℕ, suc, _-_, _≤_}
 use mathlib.Core.Path.{_≡_, refl, ap, sym, _∙_}
-use mathlib.Core.Bool.{Bool, true, false, _&&_, false≢true, and-eq-true-iff, and-true, and-false, and-assoc}
+use mathlib.Core.Bool.{Bool, true, false, _&&_, and-true, and-false, and-assoc}
 use mathlib.Core.List.{List, [], _∷_, _++_}
 use native.Mathlib.Omega.{arith}
 use mir.Val.{boolByte}
 use lib.ListN.{length, getD, take}
 use lib.Seq.{take-suc}
 use lib.Dec.{eqb}
-use borrow.Author.Tests.{eqb-true, eq-eqb}
 pub use Rattle.answers.proofs.Rules.{cond-with}
 use Rattle.text.specs.Fields.{sameAs}
 
@@ -50,22 +49,8 @@ same-append (x ∷ a) b (y ∷ c) d e =
     let l : length a ≡ length c = omega arith in
     ap (λ (t : Bool). eqb x y && t) (same-append a b c d l) ∙ sym (and-assoc (eqb x y) (sameAs a c) (sameAs b d))
 
-pub same-refl : (a : List ℕ) → sameAs a a ≡ true
-same-refl [] = refl
-same-refl (x ∷ a) = rw (eq-eqb x x refl) (same-refl a)
-
 -- the last byte of a part
 pub take-last : (l : List ℕ) (i : ℕ) → 1 ≤ i → i ≤ length l → take i l ≡ take (i - 1) l ++ (getD l (i - 1) 0 ∷ [])
 take-last l i h k =
     let e : i ≡ suc (i - 1) = omega arith in
     ap (λ (j : ℕ). take j l) e ∙ take-suc l (i - 1) 0 (omega arith)
-
-pub same-true : (a b : List ℕ) → sameAs a b ≡ true → a ≡ b
-same-true [] [] e = refl
-same-true [] (y ∷ b) e = absurd (false≢true e)
-same-true (x ∷ a) [] e = absurd (false≢true e)
-same-true (x ∷ a) (y ∷ b) e =
-    let r = and-eq-true-iff (eqb x y) (sameAs a b) .0 e in
-    let p = eqb-true x y (r .0) in
-    let q = same-true a b (r .1) in
-    cc

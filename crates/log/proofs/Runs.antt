@@ -10,6 +10,7 @@ use lib.Seq.{drop-cons, take-append-seam, set-append-seam, drop-append-seam, len
 use lib.Dec.{eqb, ltb}
 use borrow.Author.Tests.{lt-ltb, leb-true, le-leb, eqb-true, eqb-false, ltb-true, not-true}
 use Rattle.text.specs.Fields.{sameAs}
+use Rattle.text.proofs.Laws.{same-refl, same-true}
 use Rattle.answers.specs.Rules.{unless}
 use Rattle.log.specs.declared.Counts.{Counts}
 use Rattle.log.specs.declared.Reader.{Reader}
@@ -17,7 +18,7 @@ use Rattle.log.specs.declared.Phase.{Phase}
 use Rattle.log.specs.declared.Phase.the-variants.{Open, Refused, Ended}
 use Rattle.log.specs.Log.{isSound, judged}
 use Rattle.log.specs.Reader.{ToldFed, between, freshReader, afterLine, openStep, isOpen, afterByte, run, badLine, fine, afterPiece, afterEnd, isPlain, isHeld, isHolding, isBefore, isReader}
-use Rattle.log.proofs.Lists.{cond-with, by-cases, same-refl, same-true}
+use Rattle.log.proofs.Lists.{cond-with, by-cases}
 use Rattle.log.proofs.Plain.{plain-none, plain-append, plain-one, plain-tail}
 use Rattle.log.proofs.Outcomes.{judged-before}
 

@@ -9,6 +9,7 @@ use lib.Seq.{getD-append-add, drop-append-seam}
 use lib.Dec.{eqb, leb}
 use borrow.Author.Tests.{lt-ltb, ne-eqb, leb-true, leb-false}
 use Rattle.text.specs.Fields.{sameAs}
+use Rattle.text.proofs.Laws.{same-refl, same-true}
 use Rattle.band.specs.Band.{isChannel}
 use Rattle.band.proofs.Laws.{in-range}
 use Rattle.log.specs.declared.Counts.{Counts}
@@ -19,7 +20,7 @@ use Rattle.log.specs.Decimal.{decimal}
 use Rattle.text.specs.Ascii.{tab}
 use Rattle.log.specs.Log.{firstLine, slotLine, isOutcome, slotLines, logText, allOutcomes, counted, countsFrom, tuned, last, channelUpTo, isNext, judged}
 use Rattle.log.specs.Reader.{between, freshReader, afterLine, run, isPlain, isBefore}
-use Rattle.log.proofs.Lists.{by-cases, same-refl, same-true}
+use Rattle.log.proofs.Lists.{by-cases}
 use Rattle.log.proofs.Decimal.{decimal-length, decimal-plain, decimal-once}
 use Rattle.log.proofs.Lines.{channelTab, channel-here, channel-next}
 use Rattle.log.proofs.Plain.{plain-append, plain-one}

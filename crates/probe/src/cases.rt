@@ -54,7 +54,7 @@ pub(crate) fn read(line: &[u8], numbers: &mut [u64], given: &mut [u8], lent: &mu
         step\tcwpsi\t\
         write-message\tssffmffsio\t\
         new-group\tm\t\
-        join\tmgwssssffmfio\t\
+        join\tmgwsswssffmfio\t\
         write-group\tmsfssio\t\
         khz\tm\t\
         channel\tw\t\

@@ -17,7 +17,7 @@ pub(crate) fn new_group(numbers: &[u64]) {
 
 pub(crate) fn join(numbers: &[u64], data: &[u8], buffer: &mut [u8]) {
     let group = state_in(numbers);
-    let message = messages::fields_from(numbers, 6);
+    let message = messages::fields_from(numbers, 7);
     let stepped = group.join(message, data, buffer);
     let answer = stepped.answer;
     let next = stepped.group;
@@ -29,6 +29,7 @@ pub(crate) fn join(numbers: &[u64], data: &[u8], buffer: &mut [u8]) {
 fn put_answer(answer: Step) {
     match answer {
         Step::Taken => put::word(b"taken"),
+        Step::Repeat => put::word(b"repeat"),
         Step::Whole(length) => {
             put::word(b"group");
             put::count(length);
@@ -37,7 +38,7 @@ fn put_answer(answer: Step) {
     }
 }
 
-// The state in the first five arguments.
+// The state in the first six arguments.
 fn state_in(numbers: &[u64]) -> Group {
     Group {
         number: arguments::medium(numbers, 1),
@@ -45,6 +46,7 @@ fn state_in(numbers: &[u64]) -> Group {
         held: arguments::count(numbers, 3),
         messages: arguments::small(numbers, 4),
         ci: arguments::small(numbers, 5),
+        last_length: arguments::count(numbers, 6),
     }
 }
 
@@ -62,6 +64,7 @@ fn put_state(group: Group) {
     put::count(group.held);
     put::small(group.messages);
     put::small(group.ci);
+    put::count(group.last_length);
 }
 
 fn put_phase(phase: Phase) {

@@ -90,7 +90,7 @@ fn put_phase(phase: Phase) {
 
 // The fields of a message in six arguments from a place on: RI, CI, First, Last, number and COM.
 pub(crate) fn fields_from(numbers: &[u64], first: usize) -> Fields
-    requires { ⌜ first ≤ 6 ⌝ }
+    requires { ⌜ first ≤ 7 ⌝ }
 {
     Fields {
         ri: arguments::small(numbers, first),

@@ -10,6 +10,7 @@ use lib.Ieee.Fits.{nan-fits}
 use lib.Ieee.Exact.{HasValue}
 use lib.Ieee.Positive.{num, den}
 use borrow.Author.Tests.{eqb-true, ne-eqb, eq-eqb}
+use Rattle.answers.proofs.Rules.{beq-refl, beq-true}
 use Rattle.log.specs.declared.Counts.{Counts}
 use Rattle.log.specs.Log.{isCounts}
 use Rattle.summary.specs.declared.Summary.{Summary}
@@ -17,10 +18,6 @@ use Rattle.summary.specs.Summary.{share, summaryOf}
 use Rattle.summary.specs.Export.{sameBits, isSummary}
 use Rattle.summary.specs.Building.{Measured}
 use Rattle.summary.proofs.Quotient.{bounds, measured-share}
-
-beq-refl : (s : Bool) → Bool·beq s s ≡ true
-beq-refl true = refl
-beq-refl false = refl
 
 -- only a NaN differs from itself
 pub ne-nan : (x : Float) → ne x x ≡ true → x ≡ nan
@@ -66,12 +63,6 @@ missing-measured : (c : Counts) → isCounts c ≡ true → Measured (share (c .
 missing-measured c e =
     let s = bounds c e in
     measured-share (c .missing) (c .slots) (s .few) (omega (arith, s .each))
-
-beq-true : (s t : Bool) → Bool·beq s t ≡ true → s ≡ t
-beq-true true true e = refl
-beq-true true false e = absurd (true≢false (sym e))
-beq-true false true e = absurd (true≢false (sym e))
-beq-true false false e = refl
 
 -- a record that passes the test is the summary
 summary-same : (s t : Summary) → T (fits binary64 (s .mean)) → T (fits binary64 (s .missing)) → T (fits binary64 (t .mean)) → T (fits binary64 (t .missing))

@@ -8,7 +8,7 @@ use native.Mathlib.Omega.{arith}
 use lib.ListN.{length, getD, set, take, drop, length-drop, drop-of-length-le, take-append-drop}
 use lib.Seq.{drop-cons, drop-drop, drop-set-lt, take-all, take-suc-set}
 use lib.Dec.{leb, ltb, eqb}
-use borrow.Author.Tests.{leb-true, ltb-true}
+use borrow.Author.Tests.{eqb-true, eq-eqb, leb-true, ltb-true}
 use Rattle.bytes.specs.Bytes.{indexOf, slice}
 use Rattle.text.specs.Fields.{sameAs, fieldOf}
 use Rattle.text.specs.Hexadecimal.{digitOf, hexadecimal, decoded}
@@ -24,6 +24,21 @@ other-length [] [] h = absurd (h refl)
 other-length [] (b ∷ bs) h = refl
 other-length (a ∷ xs) [] h = refl
 other-length (a ∷ xs) (b ∷ bs) h = rw (other-length xs bs (λ e. h (ap suc e))) (and-false (eqb a b))
+
+-- the test of lists that are the same
+pub same-refl : (a : List ℕ) → sameAs a a ≡ true
+same-refl [] = refl
+same-refl (x ∷ a) = rw (eq-eqb x x refl) (same-refl a)
+
+pub same-true : (a b : List ℕ) → sameAs a b ≡ true → a ≡ b
+same-true [] [] e = refl
+same-true [] (y ∷ b) e = absurd (false≢true e)
+same-true (x ∷ a) [] e = absurd (false≢true e)
+same-true (x ∷ a) (y ∷ b) e =
+    let r = and-eq-true-iff (eqb x y) (sameAs a b) .0 e in
+    let p = eqb-true x y (r .0) in
+    let q = same-true a b (r .1) in
+    cc
 
 -- an empty line has empty fields
 pub no-field : (index : ℕ) → fieldOf index [] ≡ []

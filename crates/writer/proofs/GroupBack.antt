@@ -1,8 +1,8 @@
--- WHAT THE GROUP WRITER WRITES READS BACK: through a ready channel that expects the starting SC, and each message through a group state of that number.
--- Assumes nothing.
+-- WHAT THE GROUP WRITER WRITES READS BACK: through a ready channel that expects the starting SC, and each message, once or with copies behind it,
+-- through a group state of that number. Assumes nothing.
 use Prim.Native.Nat.{ℕ, zero, suc, _+_, _-_, _*_, _/_, _%_, _≤_, _<_}
 use mathlib.Core.Path.{_≡_, refl, sym, ap, ap₂, _∙_, subst}
-use mathlib.Core.Bool.{Bool, true, false, not, _||_}
+use mathlib.Core.Bool.{Bool, true, false, not, cond, _||_, true≢false}
 use mathlib.Core.List.{List, [], _∷_, _++_, map, map-append, append-assoc}
 use native.Mathlib.Numerals.{add-one}
 use native.Mathlib.Omega.{arith}
@@ -12,7 +12,7 @@ use lib.ListN.{length, take, drop, replicate, length-append, length-take, length
 use lib.Seq.{paste, length-paste, take-all}
 use Rattle.answers.specs.Numbers.{accepted, paper}
 use Rattle.answers.specs.Rules.{stateLeft}
-use Rattle.answers.proofs.Runs.{runOf, run-told, run-append, left-append}
+use Rattle.answers.proofs.Runs.{run-told, run-append, left-append}
 use Rattle.channel.specs.Answers as channel
 use Rattle.channel.specs.Answers.{ChannelAfter, toldStep}
 use Rattle.channel.specs.Layer4.{sizeOf, blocksFor}
@@ -21,17 +21,19 @@ use Rattle.channel.specs.declared.Channel.{Channel}
 use Rattle.channel.specs.declared.Header.{Header}
 use Rattle.channel.specs.declared.Stepped.{Stepped}
 use Rattle.channel.proofs.Laws.{rule-sc}
-use Rattle.group.specs.Answers.{Outcome, taken, whole, GroupAfter, groupAfter}
-use Rattle.group.specs.State.{groupWith, idle, keepsRule, messageFits, joinedOn, joinOf}
+use Rattle.group.specs.Answers.{Outcome, taken, repeat, whole, refused, GroupAfter, groupAfter}
+use Rattle.group.specs.State.{groupWith, idle, keepsRule, messageFits, isRepeat, joinedOn, joinOf}
 use Rattle.group.specs.Leading.{Message, GroupAndBuffer, JoinResult, toldResult, joinMessage, leftBy, Joins}
+use Rattle.group.specs.Repeats.{Sent, once, often, TwoBits, MayRepeat, AllMayRepeat, withRepeats, repeatOf}
 use Rattle.group.specs.declared.Group.{Group}
 use Rattle.group.specs.declared.Phase.the-variants.{Gathering}
 use Rattle.group.proofs.Joining as joining
-use Rattle.group.proofs.Rule.{gathering-rule}
+use Rattle.group.proofs.Rule.{idle-rule, gathering-rule}
 use Rattle.group.proofs.Leading.{front}
-use Rattle.writer.specs.Reading.{pieces, Steps, answersIn, channelLeft, Listens, messageIn, messagesIn, AllRead, GroupBack}
+use Rattle.group.proofs.Repeats.{joinsOf, often-run, often-left, idle-new, stepped-new, last-new, first-as-idle}
+use Rattle.writer.specs.Reading.{pieces, Steps, answersIn, channelLeft, Listens, messageIn, messagesIn, AllRead, opensAgain, groupAnswers, LastOnce, GroupBack}
 use Rattle.writer.specs.Message.{headerFor, messageBlocks, flat, LeavesBlocks}
-use Rattle.writer.specs.Group.{groupFields, messagesOf, blocksOf, groupBlocks, writeGroupOf}
+use Rattle.writer.specs.Group.{groupFields, messagesFor, messagesOf, blocksOf, groupBlocks, writeGroupOf}
 use Rattle.writer.specs.declared.Series.{Series}
 use Rattle.writer.specs.declared.Wrote.{Wrote}
 use Rattle.writer.proofs.Runs.{leaves, stepsOf, steps-told, run-elim}
@@ -89,8 +91,11 @@ module _ (number ri : ℕ) (di : Bool) (small-number : number ≤ 16383) (small-
 
 -- ---- the group state: messages to the group
 
-abbrev joinsOf : GroupAndBuffer → List Message → List GroupAfter
-joinsOf = runOf joinMessage leftBy
+-- the first of several messages may be a repeat
+opened : (again : Bool) (k n : ℕ) (o : Outcome) (rest : List Outcome) → (k ≡ 0 → again ≡ false) → o ∷ rest ≡ groupAnswers false k n → cond again repeat o ∷ rest ≡ groupAnswers again k n
+opened false k n o rest h e = e
+opened true zero n o rest h e = absurd (true≢false (h refl))
+opened true (suc k) n o rest h e = let later : rest ≡ groupAnswers false k n = cc in ap (λ (a : List Outcome). repeat ∷ a) later
 
 -- a message that is joined on: the state and the buffer that it leaves
 module _ (number ri : ℕ) (small-number : number ≤ 16383) (small-ri : ri ≤ 3) where
@@ -99,17 +104,17 @@ module _ (number ri : ℕ) (small-number : number ≤ 16383) (small-ri : ri ≤ 
   allowed ci d first last hc hd = rw (le-leb _ _ small-number, le-leb _ _ hd, le-leb _ _ small-ri, le-leb _ _ hc)
 
   -- not First: gathering, CI one more, less than fifteen messages
-  follows : (held messages ci : ℕ) (last : Bool) (s buffer : List ℕ) → keepsRule (groupWith number Gathering held messages ci) ≡ true → ci ≤ 3 → length s ≤ 255 → messages < 15 → 3825 ≤ length buffer
-      → joinOf (groupWith number Gathering held messages ci) (groupFields number ri ((ci + 1) % 4) false last) s buffer
-      ≡ joinedOn (groupWith number Gathering held messages ci) (groupFields number ri ((ci + 1) % 4) false last) s buffer
-  follows held messages ci last s buffer rule hc hd hm room =
-      let g = groupWith number Gathering held messages ci in
+  follows : (held messages ci d : ℕ) (last : Bool) (s buffer : List ℕ) → keepsRule (groupWith number Gathering held messages ci d) ≡ true → ci ≤ 3 → length s ≤ 255 → messages < 15 → 3825 ≤ length buffer
+      → joinOf (groupWith number Gathering held messages ci d) (groupFields number ri ((ci + 1) % 4) false last) s buffer
+      ≡ joinedOn (groupWith number Gathering held messages ci d) (groupFields number ri ((ci + 1) % 4) false last) s buffer
+  follows held messages ci d last s buffer rule hc hd hm room =
+      let g = groupWith number Gathering held messages ci d in
       let m = groupFields number ri ((ci + 1) % 4) false last in
       let ours : (not (eqb number number) || false) ≡ false = rw (eq-eqb number number refl) in
-      sym (joining.joins g m s buffer room rule (allowed ((ci + 1) % 4) (length s) false last (omega arith) hd) ours refl false refl refl refl hm)
+      sym (joining.joins g m s buffer room rule (allowed ((ci + 1) % 4) (length s) false last (omega arith) hd) ours (stepped-new g m s buffer (λ e. omega (arith, e))) refl false refl refl refl hm)
 
   record SeriesJoined (k : ℕ) (s : List ℕ) (base : Group) (from : GroupAndBuffer) (told : List GroupAfter) : Type 0 where
-    answers : map (λ t. t .answer) told ≡ replicate k taken ++ (whole (base .held + length s) ∷ [])
+    answers : map (λ t. t .answer) told ≡ groupAnswers false k (base .held + length s)
     state : stateLeft leftBy from told .group ≡ idle number
     bytes : take (base .held + length s) (stateLeft leftBy from told .buffer) ≡ take (base .held) (from .buffer) ++ s
 
@@ -129,23 +134,23 @@ module _ (number ri : ℕ) (small-number : number ≤ 16383) (small-ri : ri ≤ 
       let rest = drop 255 s in
       let few : length part ≤ 255 = omega (arith, length-take 255 s) in
       let held = base .held + length part in
-      let next = groupWith number Gathering held (base .messages + 1) ci in
+      let next = groupWith number Gathering held (base .messages + 1) ci (length part) in
       let laid = paste (from .buffer) (base .held) part (length part) in
       let t = groupAfter taken next laid in
       let l : joinOf (from .group) (groupFields number ri ci first (eqb (suc j) 0)) part (from .buffer) ≡ t =
-      e ∙ (rw (eqb·suc-zero j) (λ i. groupAfter taken (groupWith (is i) Gathering held (base .messages + 1) ci) laid)) in
+      e ∙ (rw (eqb·suc-zero j) (λ i. groupAfter taken (groupWith (is i) Gathering held (base .messages + 1) ci (length part)) laid)) in
       let long : length laid ≡ length (from .buffer) = length-paste (from .buffer) (base .held) part (length part) (omega arith) (omega arith) in
       let rule = gathering-rule number (base .held) (base .messages) (length part) ci small-number hh (omega arith) few hc in
       let few-rest : length (take 255 rest) ≤ 255 = omega (arith, length-take 255 rest) in
       let less : length rest ≤ 255 * suc j = rw length-drop (omega arith) in
       let messages = messagesOf (suc j) false number ri ((ci + 1) % 4) rest in
       let ih = series-joined j false ((ci + 1) % 4) rest (leftBy t) next (omega arith) less (omega arith) refl (omega arith) (omega arith)
-      (follows held (base .messages + 1) ci (eqb j 0) (take 255 rest) laid rule hc few-rest (omega arith) (omega arith)) in
+      (follows held (base .messages + 1) ci (length part) (eqb j 0) (take 255 rest) laid rule hc few-rest (omega arith) (omega arith)) in
       let cut : part ++ rest ≡ s = take-append-drop 255 s in
       let total : held + length rest ≡ base .held + length s = omega (arith, ap length cut, length-append part rest) in
       subst (λ (x : GroupAfter). SeriesJoined (suc j) s base from (x ∷ joinsOf (leftBy x) messages)) (sym l)
       (record {
-        answers = ap (λ (a : List Outcome). taken ∷ a) (ih .answers ∙ ap (λ (n : ℕ). replicate j taken ++ (whole n ∷ [])) total);
+        answers = ap (λ (a : List Outcome). taken ∷ a) (ih .answers ∙ ap (groupAnswers false j) total);
         state = ih .state;
         bytes =
             ap (λ (n : ℕ). take n (stateLeft leftBy (leftBy t) (joinsOf (leftBy t) messages) .buffer)) (sym total)
@@ -155,43 +160,124 @@ module _ (number ri : ℕ) (small-number : number ≤ 16383) (small-ri : ri ≤ 
             ∙ ap (λ (r : List ℕ). take (base .held) (from .buffer) ++ r) cut;
       })
 
+  -- from any state of the number that keeps its rule; only the first answer may be another
+  record SeriesJoins (k : ℕ) (s : List ℕ) (g : GroupAndBuffer) (messages : List Message) (told : List GroupAfter) : Type 0 where
+    answers : map (λ t. t .answer) told ≡ groupAnswers (opensAgain g messages) k (length s)
+    state : stateLeft leftBy g told .group ≡ idle number
+    bytes : take (length s) (stateLeft leftBy g told .buffer) ≡ s
+
+  series-joins : (k ci : ℕ) (s : List ℕ) (g : GroupAndBuffer) → ci ≤ 3 → length s ≤ 255 * suc k → suc k ≤ 15 → keepsRule (g .group) ≡ true → g .group .number ≡ number → 3825 ≤ length (g .buffer)
+      → let messages = messagesOf (suc k) true number ri ci s in SeriesJoins k s g messages (joinsOf g messages)
+  series-joins k ci s g hc hs hk rule is room =
+      let m = groupFields number ri ci true (eqb k 0) in
+      let part = take 255 s in
+      let few : length part ≤ 255 = omega (arith, length-take 255 s) in
+      let fits = allowed ci (length part) true (eqb k 0) hc few in
+      let ours : (i : ℕ) → i ≡ number → (not (eqb number i) || false) ≡ false = λ i e. rw (eq-eqb number i (sym e)) in
+      let from : GroupAndBuffer = record { group = idle number; buffer = g .buffer } in
+      let t = joinMessage from (record { fields = m; bytes = part }) in
+      let first : t ≡ joinedOn (idle number) m part (g .buffer) =
+      sym (joining.begins (idle number) m part (g .buffer) room (idle-rule number small-number) fits (ours number refl) (idle-new number m part (g .buffer)) refl) in
+      let J = series-joined k true ci s from (idle number) hc hs room refl (omega arith) (omega arith) first in
+      let again = isRepeat (g .group) m part (g .buffer) in
+      let rest = messagesOf k false number ri ((ci + 1) % 4) (drop 255 s) in
+      let none : 0 + length s ≡ length s = omega arith in
+      let other : joinOf (g .group) m part (g .buffer) ≡ groupAfter (cond again repeat (t .answer)) (t .group) (t .buffer) =
+      first-as-idle (g .group) m part (g .buffer) rule room refl fits (ours (g .group .number) is)
+      ∙ ap (λ (i : ℕ). let u = joinOf (idle i) m part (g .buffer) in groupAfter (cond again repeat (u .answer)) (u .group) (u .buffer)) is in
+      subst (λ (u : GroupAfter). SeriesJoins k s g (record { fields = m; bytes = part } ∷ rest) (u ∷ joinsOf (leftBy u) rest)) (sym other)
+      (record {
+        answers = opened again k (length s) (t .answer) _ (λ e. last-new (g .group) m part (g .buffer) (eq-eqb k 0 e)) (J .answers ∙ ap (groupAnswers false k) none);
+        state = J .state;
+        bytes = ap (λ (i : ℕ). take i (stateLeft leftBy (leftBy t) (joinsOf (leftBy t) rest) .buffer)) (sym none) ∙ J .bytes;
+      })
+
+-- ---- copies behind the messages but the last
+
+may-none : (o : Outcome) (copies : List ℕ) → copies ≡ [] → MayRepeat o copies
+may-none taken copies e = subst TwoBits (sym e) tt
+may-none repeat copies e = subst TwoBits (sym e) tt
+may-none (whole n) copies e = e
+may-none (refused n) copies e = e
+
+may-some : (again : Bool) (copies : List ℕ) → TwoBits copies → MayRepeat (cond again repeat taken) copies
+may-some true copies small = small
+may-some false copies small = small
+
+all-may : (k n : ℕ) (again : Bool) (g : GroupAndBuffer) (sent : List Sent) → map (λ t. t .answer) (joinsOf g (once sent)) ≡ groupAnswers again k n → LastOnce sent → AllMayRepeat (joinsOf g (once sent)) sent
+all-may k n again g [] e l = tt
+all-may k n again g (x ∷ []) e l = (may-none (joinMessage g (x .message) .answer) (x .copies) l, tt)
+all-may zero n again g (x ∷ y ∷ sent) e l = let z : _≡_ {A = ℕ} 0 1 = cc in absurd (omega arith)
+all-may (suc k) n again g (x ∷ y ∷ sent) e l =
+    let t = joinMessage g (x .message) in
+    let o : t .answer ≡ cond again repeat taken = cc in
+    let rest : map (λ u. u .answer) (joinsOf (leftBy t) (once (y ∷ sent))) ≡ groupAnswers false k n = cc in
+    (subst (λ (a : Outcome). MayRepeat a (x .copies)) (sym o) (may-some again (x .copies) (l .0)), all-may k n false (leftBy t) (y ∷ sent) rest (l .1))
+
+-- the answers alone
+copies-answered : (t : GroupAfter) (n : ℕ) (told : List GroupAfter) → map (λ u. u .answer) (replicate n (repeatOf t) ++ told) ≡ replicate n repeat ++ map (λ u. u .answer) told
+copies-answered t zero told = refl
+copies-answered t (suc n) told = ap (λ (a : List Outcome). repeat ∷ a) (copies-answered t n told)
+
+repeats-answered : (told : List GroupAfter) (sent : List Sent) → map (λ t. t .answer) (withRepeats repeatOf told sent) ≡ withRepeats (λ _. repeat) (map (λ t. t .answer) told) sent
+repeats-answered [] sent = refl
+repeats-answered (t ∷ told) [] = refl
+repeats-answered (t ∷ told) (x ∷ sent) =
+    ap (λ (a : List Outcome). t .answer ∷ a)
+    (copies-answered t (length (x .copies)) (withRepeats repeatOf told sent) ∙ ap (λ (a : List Outcome). replicate (length (x .copies)) repeat ++ a) (repeats-answered told sent))
+
 -- ---- both
 
--- A GROUP WRITTEN READS BACK
-pub group-back : (x : Series) (s before after : List ℕ) (w : Wrote) (c : Channel) (steps : List Stepped) (g : GroupAndBuffer) (joins : List JoinResult)
-    → LeavesBlocks (writeGroupOf x s (length before)) w before after → paper (w .answer) ≡ accepted
-    → Listens c → c .expected ≡ x .sc → Steps c (pieces (w .blocks) after) steps
-    → keepsRule (g .group) ≡ true → g .group .number ≡ x .number → 3825 ≤ length (g .buffer) → Joins g (messagesIn (map toldStep steps)) joins
-    → GroupBack x s (w .blocks) c (map toldStep steps) g (map toldResult joins)
-unfolding groupBlocks
-group-back x s before after w c steps g joins wrote took l sc did rule same room joined =
-    let p = group-pieces x s before after w wrote took in
-    let b = within-widths (p .0) in
-    let n = length s in
-    let k = (n - 1) / 255 in
-    let f = full-messages n (b .4) in
-    let messages = messagesOf (suc k) true (x .number) (x .ri) (x .ci) s in
-    let blocks : pieces (w .blocks) after ≡ blocksOf (x .di) (c .expected) messages =
-    p .2 ∙ λ i. blocksOf (x .di) (sym sc i) (messagesOf (add-one k i) true (x .number) (x .ri) (x .ci) s) in
-    let count : w .blocks ≡ length (blocksOf (x .di) (c .expected) messages) = p .1 ∙ ap length (sym (p .2) ∙ blocks) in
-    let read : AllRead messages (w .blocks) c (map toldStep steps) =
-    rw (steps-told c (pieces (w .blocks) after) steps did, blocks, count)
-    (series-read (x .number) (x .ri) (x .di) (omega arith) (omega arith) (suc k) true (x .ci) s c (omega arith) l) in
-    let m = groupFields (x .number) (x .ri) (x .ci) true (eqb k 0) in
-    let few : length (take 255 s) ≤ 255 = omega (arith, length-take 255 s) in
-    let fits = allowed (x .number) (x .ri) (omega arith) (omega arith) (x .ci) (length (take 255 s)) true (eqb k 0) (omega arith) few in
-    let ours : (not (eqb (x .number) (g .group .number)) || false) ≡ false = rw (eq-eqb _ _ (sym same)) in
-    let first : joinOf (g .group) m (take 255 s) (g .buffer) ≡ joinedOn (idle (x .number)) m (take 255 s) (g .buffer) =
-    sym (joining.begins (g .group) m (take 255 s) (g .buffer) room rule fits ours refl)
-    ∙ ap (λ (i : ℕ). joinedOn (idle i) m (take 255 s) (g .buffer)) same in
-    let J : SeriesJoined (x .number) (x .ri) (omega arith) (omega arith) k s (idle (x .number)) g (map toldResult joins) =
-    rw (run-told joinMessage leftBy toldResult g (messagesIn (map toldStep steps)) joins joined, read .given)
-    (series-joined (x .number) (x .ri) (omega arith) (omega arith) k true (x .ci) s g (idle (x .number)) (omega arith) (omega arith) room refl (omega arith) (omega arith) first) in
-    let less : k + 1 - 1 ≡ k = omega arith in
-    let none : 0 + n ≡ n = omega arith in
-    record {
-      read = subst (λ (j : ℕ). AllRead (messagesOf j true (x .number) (x .ri) (x .ci) s) (w .blocks) c (map toldStep steps)) (sym (add-one k)) read;
-      answers = J .answers ∙ (λ i. replicate (sym less i) taken ++ (whole (none i) ∷ []));
-      state = J .state;
-      bytes = ap (λ (i : ℕ). take i (stateLeft leftBy g (map toldResult joins) .buffer)) (sym none) ∙ J .bytes;
-    }
+module _ (x : Series) (s before after : List ℕ) (w : Wrote) (c : Channel) (steps : List Stepped) (g : GroupAndBuffer)
+    (wrote : LeavesBlocks (writeGroupOf x s (length before)) w before after) (took : paper (w .answer) ≡ accepted)
+    (l : Listens c) (sc : c .expected ≡ x .sc) (did : Steps c (pieces (w .blocks) after) steps)
+    (rule : keepsRule (g .group) ≡ true) (same : g .group .number ≡ x .number) (room : 3825 ≤ length (g .buffer)) where
+  abbrev answersDue : List Outcome
+  answersDue = groupAnswers (opensAgain g (messagesIn (map toldStep steps))) (messagesFor (length s) - 1) (length s)
+
+  group-joined : GroupBack x s (w .blocks) c (map toldStep steps) answersDue g (joinsOf g (messagesIn (map toldStep steps)))
+  unfolding groupBlocks
+  group-joined =
+      let p = group-pieces x s before after w wrote took in
+      let b = within-widths (p .0) in
+      let n = length s in
+      let k = (n - 1) / 255 in
+      let f = full-messages n (b .4) in
+      let messages = messagesOf (suc k) true (x .number) (x .ri) (x .ci) s in
+      let blocks : pieces (w .blocks) after ≡ blocksOf (x .di) (c .expected) messages =
+      p .2 ∙ λ i. blocksOf (x .di) (sym sc i) (messagesOf (add-one k i) true (x .number) (x .ri) (x .ci) s) in
+      let count : w .blocks ≡ length (blocksOf (x .di) (c .expected) messages) = p .1 ∙ ap length (sym (p .2) ∙ blocks) in
+      let read : AllRead messages (w .blocks) c (map toldStep steps) =
+      rw (steps-told c (pieces (w .blocks) after) steps did, blocks, count)
+      (series-read (x .number) (x .ri) (x .di) (omega arith) (omega arith) (suc k) true (x .ci) s c (omega arith) l) in
+      let J = series-joins (x .number) (x .ri) (omega arith) (omega arith) k (x .ci) s g (omega arith) (omega arith) (omega arith) rule same room in
+      let less : k + 1 - 1 ≡ k = omega arith in
+      subst (λ (m : List Message). GroupBack x s (w .blocks) c (map toldStep steps) (groupAnswers (opensAgain g m) (k + 1 - 1) n) g (joinsOf g m)) (sym (read .given))
+      (record {
+        read = subst (λ (j : ℕ). AllRead (messagesOf j true (x .number) (x .ri) (x .ci) s) (w .blocks) c (map toldStep steps)) (sym (add-one k)) read;
+        answers = J .answers ∙ ap (λ (j : ℕ). groupAnswers (opensAgain g messages) j n) (sym less);
+        state = J .state;
+        bytes = J .bytes;
+      })
+
+  -- A GROUP WRITTEN READS BACK
+  pub group-back : (joins : List JoinResult) → Joins g (messagesIn (map toldStep steps)) joins
+      → GroupBack x s (w .blocks) c (map toldStep steps) (groupAnswers (opensAgain g (messagesIn (map toldStep steps))) (messagesFor (length s) - 1) (length s)) g (map toldResult joins)
+  group-back joins joined =
+      subst (GroupBack x s (w .blocks) c (map toldStep steps) answersDue g) (sym (run-told joinMessage leftBy toldResult g (messagesIn (map toldStep steps)) joins joined)) group-joined
+
+  -- AND WITH EACH MESSAGE BUT THE LAST HANDED IN ANY NUMBER OF TIMES
+  pub group-back-with-repeats : (sent : List Sent) (joins : List JoinResult) → once sent ≡ messagesIn (map toldStep steps) → LastOnce sent → Joins g (often sent) joins
+      → GroupBack x s (w .blocks) c (map toldStep steps) (withRepeats (λ _. repeat) (groupAnswers (opensAgain g (once sent)) (messagesFor (length s) - 1) (length s)) sent) g (map toldResult joins)
+  group-back-with-repeats sent joins is last joined =
+      let B : GroupBack x s (w .blocks) c (map toldStep steps) (groupAnswers (opensAgain g (once sent)) (messagesFor (length s) - 1) (length s)) g (joinsOf g (once sent)) = rw is group-joined in
+      let told : map toldResult joins ≡ withRepeats repeatOf (joinsOf g (once sent)) sent =
+      run-told joinMessage leftBy toldResult g (often sent) joins joined
+      ∙ often-run g sent (all-may (messagesFor (length s) - 1) (length s) (opensAgain g (once sent)) g sent (B .answers) last) in
+      let left : stateLeft leftBy g (map toldResult joins) ≡ stateLeft leftBy g (joinsOf g (once sent)) = ap (stateLeft leftBy g) told ∙ often-left g (joinsOf g (once sent)) sent in
+      record {
+        read = B .read;
+        answers = ap (map (λ t. t .answer)) told ∙ repeats-answered (joinsOf g (once sent)) sent ∙ ap (λ (a : List Outcome). withRepeats (λ _. repeat) a sent) (B .answers);
+        state = ap (λ (u : GroupAndBuffer). u .group) left ∙ B .state;
+        bytes = ap (λ (u : GroupAndBuffer). take (length s) (u .buffer)) left ∙ B .bytes;
+      }

@@ -1,10 +1,10 @@
 -- Document 01, "Reading back is claimed from a ready channel that expects the starting SC. Written again, an accepted message has the same
 -- header, data and padding, and the same blocks where its first SC is given and all its DIs were the one given." What these claims say: `ReadBack`,
--- `WrittenAgain` and `GroupBack` of any outcomes that the contracts of the writers, of `Channel::step` and of `Group::join` allow, `MessageAgain` of
--- the bytes of a message, as the writer's definitions lay them out. Assumes nothing.
+-- `WrittenAgain` and `GroupBack` (with ticket 2 of document 02, by which messages are repeated) of any outcomes that the contracts of the writers, of
+-- `Channel::step` and of `Group::join` allow, `MessageAgain` of the bytes of a message, as the writer's definitions lay them out. Assumes nothing.
 use Prim.Native.Nat.{ℕ, zero, suc, _+_, _-_, _%_, _≤_}
 use mathlib.Core.Path.{_≡_}
-use mathlib.Core.Bool.{Bool, true}
+use mathlib.Core.Bool.{Bool, true, false, cond}
 use mathlib.Core.List.{List, [], _∷_, _++_, map}
 use lib.ListN.{length, take, drop, replicate}
 use Rattle.answers.specs.Numbers as answers
@@ -23,7 +23,8 @@ use Rattle.channel.specs.declared.Stepped.{Stepped}
 use Rattle.group.specs.Answers as group
 use Rattle.group.specs.Answers.{GroupAfter}
 use Rattle.group.specs.Leading.{Message, GroupAndBuffer, leftBy}
-use Rattle.group.specs.State.{idle}
+use Rattle.group.specs.State.{idle, isRepeat}
+use Rattle.group.specs.Repeats.{Sent, TwoBits}
 use Rattle.writer.specs.Message.{headerFor, messageBytes, messageInWidths, flat}
 use Rattle.writer.specs.Group.{messagesFor, messagesOf}
 use Rattle.writer.specs.declared.Series.{Series}
@@ -116,10 +117,26 @@ pub record AllRead (messages : List Message) (blocks : ℕ) (c : Channel) (told 
   pub listens : Listens (channelLeft c told)
   pub expected : channelLeft c told .expected ≡ (c .expected + blocks) % 16
 
--- of a group written, its blocks through a channel, and the messages that it gave through a group state: "taken" .. "group" with the data's length,
--- the state idle, and the data in front of the buffer
-pub record GroupBack (x : Series) (s : List ℕ) (blocks : ℕ) (c : Channel) (told : List ChannelAfter) (g : GroupAndBuffer) (joined : List GroupAfter) : Type 0 where
+-- the first of these messages is a repeat, as to a state that holds just this one
+abbrev pub opensAgain : GroupAndBuffer → List Message → Bool
+opensAgain g [] = false
+opensAgain g (m ∷ messages) = isRepeat (g .group) (m .fields) (m .bytes) (g .buffer)
+
+-- the answers to k messages and the one that makes a group of n bytes: "taken" .. "group", but "repeat" where the first of several opens again
+abbrev pub groupAnswers : Bool → ℕ → ℕ → List group.Outcome
+groupAnswers again zero n = group.whole n ∷ []
+groupAnswers again (suc k) n = cond again group.repeat group.taken ∷ groupAnswers false k n
+
+-- each message but the last with any copies behind it, their RI of two bits; the last with none
+abbrev pub LastOnce : List Sent → Type 0
+LastOnce [] = Unit
+LastOnce (x ∷ []) = x .copies ≡ []
+LastOnce (x ∷ y ∷ sent) = TwoBits (x .copies) × LastOnce (y ∷ sent)
+
+-- of a group written, its blocks through a channel, and the messages that it gave through a group state: these answers, the state idle, and the data
+-- in front of the buffer
+pub record GroupBack (x : Series) (s : List ℕ) (blocks : ℕ) (c : Channel) (told : List ChannelAfter) (due : List group.Outcome) (g : GroupAndBuffer) (joined : List GroupAfter) : Type 0 where
   pub read : AllRead (messagesOf (messagesFor (length s)) true (x .number) (x .ri) (x .ci) s) blocks c told
-  pub answers : map (λ t. t .answer) joined ≡ replicate (messagesFor (length s) - 1) group.taken ++ (group.whole (length s) ∷ [])
+  pub answers : map (λ t. t .answer) joined ≡ due
   pub state : stateLeft leftBy g joined .group ≡ idle (x .number)
   pub bytes : take (length s) (stateLeft leftBy g joined .buffer) ≡ s

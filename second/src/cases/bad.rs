@@ -112,8 +112,9 @@ fn other_command(random: &Random, round: usize) -> Case {
     fields.join(&b'\t')
 }
 
-/// Each parameter just above what it can hold.
-const BEYOND: [&str; 34] = [
+/// Each parameter just above what it can hold, and group states with a field too few and one too
+/// many.
+const BEYOND: [&str; 41] = [
     "khz\t65536",
     "khz\t4294967297",
     "khz\t18446744073709551617",
@@ -133,15 +134,22 @@ const BEYOND: [&str; 34] = [
     "write-group\t0\t0\t2\t0\t0\t.\t.",
     "write-group\t0\t0\t0\t256\t0\t.\t.",
     "write-group\t0\t0\t0\t0\t256\t.\t.",
-    "join\t65536\tidle\t0\t0\t0\t0\t0\t0\t0\t0\t0\t.\t.",
-    "join\t0\twaiting\t0\t0\t0\t0\t0\t0\t0\t0\t0\t.\t.",
-    "join\t0\tidle\t4294967296\t0\t0\t0\t0\t0\t0\t0\t0\t.\t.",
-    "join\t0\tidle\t0\t256\t0\t0\t0\t0\t0\t0\t0\t.\t.",
-    "join\t0\tidle\t0\t0\t256\t0\t0\t0\t0\t0\t0\t.\t.",
-    "join\t0\tidle\t0\t0\t0\t256\t0\t0\t0\t0\t0\t.\t.",
-    "join\t0\tidle\t0\t0\t0\t0\t256\t0\t0\t0\t0\t.\t.",
-    "join\t0\tidle\t0\t0\t0\t0\t0\t0\t2\t0\t0\t.\t.",
-    "join\t0\tidle\t0\t0\t0\t0\t0\t0\t0\t0\t2\t.\t.",
+    "join\t65536\tidle\t0\t0\t0\t0\t0\t0\t0\t0\t0\t0\t.\t.",
+    "join\t0\twaiting\t0\t0\t0\t0\t0\t0\t0\t0\t0\t0\t.\t.",
+    "join\t0\tidle\t4294967296\t0\t0\t0\t0\t0\t0\t0\t0\t0\t.\t.",
+    "join\t0\tidle\t0\t256\t0\t0\t0\t0\t0\t0\t0\t0\t.\t.",
+    "join\t0\tidle\t0\t0\t256\t0\t0\t0\t0\t0\t0\t0\t.\t.",
+    "join\t0\tidle\t0\t0\t0\t4294967296\t0\t0\t0\t0\t0\t0\t.\t.",
+    "join\t0\tidle\t0\t0\t0\t0\t256\t0\t0\t0\t0\t0\t.\t.",
+    "join\t0\tidle\t0\t0\t0\t0\t0\t256\t0\t0\t0\t0\t.\t.",
+    "join\t0\tidle\t0\t0\t0\t0\t0\t0\t2\t0\t0\t0\t.\t.",
+    "join\t0\tidle\t0\t0\t0\t0\t0\t0\t0\t2\t0\t0\t.\t.",
+    "join\t0\tidle\t0\t0\t0\t0\t0\t0\t0\t0\t65536\t0\t.\t.",
+    "join\t0\tidle\t0\t0\t0\t0\t0\t0\t0\t0\t0\t2\t.\t.",
+    "join\t0\tidle\t0\t0\t0\t0\t0\t0\t0\t0\t0\t.\t.",
+    "join\t0\tidle\t0\t0\t0\t0\t0\t0\t0\t0\t0\t0\t0\t.\t.",
+    "join\t0\tgathering\t2\t1\t0\t3\t0\t1\t0\t0\t0\t4142\t.",
+    "join\t0\tgathering\t2\t1\t0\t2\t2\t3\t0\t1\t0\t0\t0\t4142\t.",
     "summary\t256\t0\t0\t0\t0\t0\t0\t0",
     "summary\t1\t4294967296\t0\t0\t0\t0\t0\t0",
     "summary\t1\t0\t0\t0\t0\t0\t0\t4294967296",

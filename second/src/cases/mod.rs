@@ -6,6 +6,7 @@ mod channel;
 mod groups;
 mod logs;
 pub mod patterns;
+mod repeats;
 mod survey;
 mod writers;
 

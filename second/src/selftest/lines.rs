@@ -45,7 +45,7 @@ pub fn cases() -> Outcome {
     })
 }
 
-/// Where the answer is a number, the last field is the lent buffer as it came.
+/// Where the answer is a number or `repeat`, the last field is the lent buffer as it came.
 pub fn refusals() -> Outcome {
     let lending = [
         "correct",
@@ -60,7 +60,7 @@ pub fn refusals() -> Outcome {
     for word in lending {
         for case in cases_of(word, 8)? {
             let answer = answer(&case);
-            if answer[0].is_ascii_digit() {
+            if answer[0].is_ascii_digit() || answer.starts_with(b"repeat\t") {
                 let last = |line: &[u8]| {
                     line.rsplit(|byte| *byte == b'\t')
                         .next()

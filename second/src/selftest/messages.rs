@@ -1,12 +1,14 @@
 //! Headers, messages and groups.
 
 use super::{expect, expect_equal, Outcome};
+use crate::answers::OUT_OF_STEP;
 use crate::block::INFORMATION_BYTES;
 use crate::cases::fill;
 use crate::channel::{Channel, Phase, Step};
 use crate::group::{Group, Incoming, Join};
 use crate::message::*;
 use crate::random::Random;
+use std::collections::HashSet;
 
 /// Document 01's P6, 000's example in 11.2.4 and 003's in 10.2.2 in document 01's order.
 pub fn published() -> Outcome {
@@ -95,36 +97,141 @@ pub fn groups_read_back() -> Outcome {
         let fill = fill(&random);
         let edge = edges.get(round).copied();
         let data = random.bytes(edge.unwrap_or_else(|| random.between(0, LARGEST_GROUP)));
-        let mut output = vec![0; 195 * INFORMATION_BYTES];
-        let blocks = write_group(&fill, &data, &mut output).map_err(|n| format!("answer {n}"))?;
-        let messages = messages_in(&mut ready(fill.sc), &output[..blocks * INFORMATION_BYTES])?;
+        let messages = written_group(&fill, &data)?;
         let fewest = data.len().div_ceil(LARGEST_DATA).max(1);
         expect_equal(messages.len(), fewest, "messages")?;
-        expect_equal(joined(fill.number, messages)?, data, "group")?;
+        expect_equal(joined(fill.number, &messages)?, data, "group")?;
     }
     Ok(())
 }
 
+/// The messages of a group as the writer puts them into blocks and the channel reads them.
+fn written_group(fill: &Fill, data: &[u8]) -> Result<Vec<Incoming>, String> {
+    let mut output = vec![0; 195 * INFORMATION_BYTES];
+    let blocks = write_group(fill, data, &mut output).map_err(|n| format!("answer {n}"))?;
+    let messages = messages_in(&mut ready(fill.sc), &output[..blocks * INFORMATION_BYTES])?;
+    let incoming = |(header, data): (MessageHeader, Vec<u8>)| Incoming {
+        ri: header.ri,
+        ci: header.ci,
+        first: header.first,
+        last: header.last,
+        number: header.number(),
+        com: header.com,
+        data,
+    };
+    Ok(messages.into_iter().map(incoming).collect())
+}
+
 /// The joined data of messages of which only the last ends a group.
-fn joined(number: u16, messages: Vec<(MessageHeader, Vec<u8>)>) -> Result<Vec<u8>, String> {
+fn joined(number: u16, messages: &[Incoming]) -> Result<Vec<u8>, String> {
     let mut group = Group::idle(number);
     let mut buffer = vec![0xEE; LARGEST_GROUP];
-    let count = messages.len();
-    for (i, (header, data)) in messages.into_iter().enumerate() {
-        let message = Incoming {
-            ri: header.ri,
-            ci: header.ci,
-            first: header.first,
-            last: header.last,
-            number: header.number(),
-            com: header.com,
-            data,
-        };
-        match group.join(&message, &mut buffer) {
-            Join::Taken => expect(i + 1 < count, || String::from("not ended"))?,
-            Join::Group(length) if i + 1 == count => buffer.truncate(length as usize),
+    for (i, message) in messages.iter().enumerate() {
+        let ends = i + 1 == messages.len();
+        match group.join(message, &mut buffer) {
+            Join::Taken => expect(!ends, || String::from("not ended"))?,
+            Join::Group(length) if ends => buffer.truncate(length as usize),
             other => return Err(format!("{other:?}")),
         }
     }
     Ok(buffer)
+}
+
+/// Written groups with up to three repeats of each message but the last: the joined data is the
+/// same, and the last message's repeat finds the state idle.
+pub fn repeats() -> Outcome {
+    let random = Random::new(9, "selftest");
+    let edges = [0, 1, 255, 256, 510, 511, 3570, 3571, 3825];
+    for round in 0..200 {
+        let fill = fill(&random);
+        let edge = edges.get(round).copied();
+        // Often all messages hold the same bytes, and are no repeats of each other.
+        let data = random.marked(edge.unwrap_or_else(|| random.between(0, LARGEST_GROUP)));
+        let messages = written_group(&fill, &data)?;
+        let mut group = Group::idle(fill.number);
+        let mut buffer = vec![0xEE; LARGEST_GROUP];
+        let (last, others) = messages.split_last().ok_or("no message")?;
+        for message in others {
+            expect_equal(group.join(message, &mut buffer), Join::Taken, "once")?;
+            repeats_change_nothing(&random, message, &mut group, &mut buffer)?;
+            turned_is_no_repeat(&random, message, &group, &buffer)?;
+        }
+        let whole = Join::Group(data.len() as u32);
+        expect_equal(group.join(last, &mut buffer), whole, "last")?;
+        expect_equal(&buffer[..data.len()], &data[..], "joined")?;
+        let again = match last.first {
+            true => Join::Group(data.len() as u32),
+            false => Join::Refused(OUT_OF_STEP),
+        };
+        expect_equal(group.join(last, &mut buffer), again, "last again")?;
+        expect_equal(group, Group::idle(fill.number), "state")?;
+    }
+    Ok(())
+}
+
+fn repeats_change_nothing(
+    random: &Random,
+    message: &Incoming,
+    group: &mut Group,
+    buffer: &mut [u8],
+) -> Outcome {
+    let before = (group.clone(), buffer.to_vec());
+    for _ in 0..random.below(4) {
+        let ri = random.below(4) as u8;
+        let repeat = Incoming {
+            ri,
+            ..message.clone()
+        };
+        expect_equal(group.join(&repeat, buffer), Join::Repeat, "again")?;
+        let after = (group.clone(), buffer.to_vec());
+        expect(after == before, || String::from("changed by a repeat"))?;
+    }
+    Ok(())
+}
+
+/// With one bit of its data turned the message is no repeat: a First restarts, another is out of
+/// step. The group itself goes on without it.
+fn turned_is_no_repeat(
+    random: &Random,
+    message: &Incoming,
+    group: &Group,
+    buffer: &[u8],
+) -> Outcome {
+    let mut turned = message.clone();
+    turned.data[random.below(LARGEST_DATA)] ^= 1 << random.below(8);
+    let wanted = match message.first {
+        true => Join::Taken,
+        false => Join::Refused(OUT_OF_STEP),
+    };
+    let answer = group.clone().join(&turned, &mut buffer.to_vec());
+    expect_equal(answer, wanted, "turned")
+}
+
+/// A state's lengths are right just where messages of such lengths can be found. They are found
+/// message by message: to each sum of those before, every length a message may have is added.
+pub fn lengths() -> Outcome {
+    let most = 3 * LARGEST_DATA as u32 + 2;
+    let mut sums = HashSet::from([0]);
+    for messages in 1..=3 {
+        let lengths = 0..=LARGEST_DATA as u32;
+        let found: HashSet<(u32, u32)> = sums
+            .iter()
+            .flat_map(|sum| lengths.clone().map(move |length| (sum + length, length)))
+            .collect();
+        for held in 0..=most {
+            for last_length in (0..=most).chain([1 << 16, u32::MAX - held, u32::MAX]) {
+                let group = Group {
+                    gathering: true,
+                    held,
+                    messages,
+                    last_length,
+                    ..Group::idle(64)
+                };
+                let right = found.contains(&(held, last_length));
+                expect(group.keeps_the_rule() == right, || format!("{group:?}"))?;
+            }
+        }
+        sums = found.into_iter().map(|(sum, _)| sum).collect();
+    }
+    Ok(())
 }

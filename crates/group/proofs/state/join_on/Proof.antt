@@ -5,6 +5,7 @@ use Rattle.group.specs.State.{idle, groupWith, joinedOn}
 use Rattle.group.specs.Answers.{taken, whole, groupAfter}
 use Prim.Native.Nat.{_+_}
 use mathlib.Core.Path.{refl}
+use lib.ListN.{length}
 use borrow.Author.Needs.{needs}
 use Rattle.group.proofs.state.join_on.Statement.{statement}
 use Rattle.group.proofs.state.join_on.Tie as tie
@@ -48,7 +49,7 @@ unfolding joinedOn
 returns-2 c =
     let k = c .before .before .before .before in
     let a = k .before .before .before .before .args in
-    rw (c .before .if1 .left) (λ i. groupAfter taken (groupWith (a .group .number) Gathering (a .group .held + k .copy .ensures .0 i) (a .group .messages + 1) (a .message .ci)) (copied (a .buffer .now) (a .«data» .now) _ (a .group .held) _ refl (k .copy .ensures .1) i))
+    rw (c .before .if1 .left) (λ i. groupAfter taken (groupWith (a .group .number) Gathering (a .group .held + k .copy .ensures .0 i) (a .group .messages + 1) (a .message .ci) (length (a .«data» .now))) (copied (a .buffer .now) (a .«data» .now) _ (a .group .held) _ refl (k .copy .ensures .1) i))
 
 pub join-on-spec : {M : Type 1} → statement M
 join-on-spec =

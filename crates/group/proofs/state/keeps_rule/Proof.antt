@@ -20,10 +20,13 @@ returns : tie.Need-returns
 unfolding keepsRule
 returns c = rw (c .before .enum-told .given .1)
 
+length-holds-requires : tie.Need-length-holds-requires
+length-holds-requires c κs = search needs
+
 returns-2 : tie.Need-returns-2
 unfolding keepsRule
-returns-2 c = rw (c .before .enum-told2 .given .1)
+returns-2 c = rw (c .before .before .enum-told2 .given .1, c .length-holds .ensures)
 
 pub keeps-rule-spec : {M : Type 1} → statement M
 keeps-rule-spec =
-    tie.close (tie.spec enum-told enum-told-2 cast-result mul-result returns returns-2)
+    tie.close (tie.spec enum-told enum-told-2 cast-result mul-result length-holds-requires returns returns-2)
