@@ -92,10 +92,7 @@ impl Group {
             return state::refused(Refusal::NotThisGroup, self);
         }
         if state::is_repeat(self, message, data, buffer) {
-            return Stepped {
-                answer: Step::Repeat,
-                group: self,
-            };
+            return state::repeated(self);
         }
         if message.first {
             return state::join_on(state::idle(self.number), message, data, buffer);

@@ -4,7 +4,7 @@ ghost use mathlib.Core.Path.{_≡_};
 ghost use Prim.Native.Nat.{ℕ, _+_, _<_, _≤_};
 ghost use lib.ListN.{length};
 ghost use Rattle.answers.specs.Numbers.{numberOf};
-ghost use Rattle.group.specs.Answers.{refused, groupAfter, toldJoin};
+ghost use Rattle.group.specs.Answers.{repeat, refused, groupAfter, toldJoin};
 ghost use Rattle.group.specs.State.{idle, lengthHolds, keepsRule, messageFits, isIdle, isRepeat, joinedOn};
 use crate::Group;
 use crate::Phase;
@@ -42,6 +42,14 @@ pub(crate) fn left_idle(refusal: Refusal, group: Group) -> Stepped
     ensures { λ r. ⌜ ((buffer : List ℕ) → toldJoin r buffer ≡ groupAfter (refused (numberOf refusal)) (idle (group .number)) buffer) ⌝ }
 {
     refused(refusal, idle(group.number))
+}
+
+// A repeat leaves the state as it stood.
+pub(crate) fn repeated(group: Group) -> Stepped
+    ensures { λ r. ⌜ ((buffer : List ℕ) → toldJoin r buffer ≡ groupAfter repeat group buffer) ⌝ }
+{
+    let answer = Step::Repeat;
+    Stepped { answer, group }
 }
 
 // Whether the numbers are as the phase has them.

@@ -1,7 +1,7 @@
 -- Numbers with the same bits are the same, and what is no number has other bits. Assumes nothing.
 use Prim.Native.Nat.{_*_}
 use mathlib.Core.Path.{_≡_, refl, ap, sym, _∙_, subst}
-use mathlib.Core.Bool.{Bool, true, false, not, Bool·beq, _&&_, _||_, true≢false, and-eq-true-iff}
+use mathlib.Core.Bool.{true, false, not, Bool·beq, _&&_, _||_, true≢false, and-eq-true-iff}
 use native.Mathlib.Omega.{arith}
 use lib.Dec.{T, eqb}
 use lib.Ieee.{Float, nan, inf, fin, binary64, up, down, fits, isNan, eq, ne, ofBits, toBits}

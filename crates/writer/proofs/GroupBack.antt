@@ -24,7 +24,7 @@ use Rattle.channel.proofs.Laws.{rule-sc}
 use Rattle.group.specs.Answers.{Outcome, taken, repeat, whole, refused, GroupAfter, groupAfter}
 use Rattle.group.specs.State.{groupWith, idle, keepsRule, messageFits, isRepeat, joinedOn, joinOf}
 use Rattle.group.specs.Leading.{Message, GroupAndBuffer, JoinResult, toldResult, joinMessage, leftBy, Joins}
-use Rattle.group.specs.Repeats.{Sent, once, often, TwoBits, MayRepeat, AllMayRepeat, withRepeats, repeatOf}
+use Rattle.group.specs.Repeats.{copyOf, Sent, once, often, TwoBits, MayRepeat, AllMayRepeat, withRepeats, repeatOf}
 use Rattle.group.specs.declared.Group.{Group}
 use Rattle.group.specs.declared.Phase.the-variants.{Gathering}
 use Rattle.group.proofs.Joining as joining
@@ -33,7 +33,7 @@ use Rattle.group.proofs.Leading.{front}
 use Rattle.group.proofs.Repeats.{joinsOf, often-run, often-left, idle-new, stepped-new, last-new, first-as-idle}
 use Rattle.writer.specs.Reading.{pieces, Steps, answersIn, channelLeft, Listens, messageIn, messagesIn, AllRead, opensAgain, groupAnswers, LastOnce, GroupBack}
 use Rattle.writer.specs.Message.{headerFor, messageBlocks, flat, LeavesBlocks}
-use Rattle.writer.specs.Group.{groupFields, messagesFor, messagesOf, blocksOf, groupBlocks, writeGroupOf}
+use Rattle.writer.specs.Group.{seriesInWidths, groupFields, messagesFor, messagesOf, groupMessages, blocksOf, groupBlocks, writeGroupOf}
 use Rattle.writer.specs.declared.Series.{Series}
 use Rattle.writer.specs.declared.Wrote.{Wrote}
 use Rattle.writer.proofs.Runs.{leaves, stepsOf, steps-told, run-elim}
@@ -58,36 +58,56 @@ one-read n h =
     (λ k c b blocks e rest. ap (λ (o : channel.Outcome). messageIn o (stepOf c b .channel) ++ messagesIn (stepsOf (stepOf c b .channel) blocks)) e ∙ rest)
     n
 
-module _ (number ri : ℕ) (di : Bool) (small-number : number ≤ 16383) (small-ri : ri ≤ 3) where
-  -- the blocks of messages are read as these messages, and the channel expects the SC after the last block's
-  series-read : (k : ℕ) (first : Bool) (ci : ℕ) (s : List ℕ) (c : Channel) → ci ≤ 3 → Listens c
-      → let messages = messagesOf k first number ri ci s in
-      let blocks = blocksOf di (c .expected) messages in
-      AllRead messages (length blocks) c (stepsOf c blocks)
-  series-read zero first ci s c hc l = record { answers = refl; given = refl; listens = l; expected = omega (arith, rule-sc c (l .rule)) }
-  series-read (suc k) first ci s c hc l =
-      let m = groupFields number ri ci first (eqb k 0) in
-      let part = take 255 s in
-      let few : length part ≤ 255 = omega (arith, length-take 255 s) in
-      let B = messageBlocks m di (c .expected) part in
-      let R = blocks-back m di part c l (within-true m (c .expected) (length part) (omega arith) (omega arith) (omega arith) (rule-sc c (l .rule)) few) in
-      let T = stepsOf c B in
-      let c₁ = channelLeft c T in
-      let messages = messagesOf k false number ri ((ci + 1) % 4) (drop 255 s) in
-      let G = blocksOf di (c₁ .expected) messages in
-      let U = stepsOf c₁ G in
-      let ih = series-read k false ((ci + 1) % 4) (drop 255 s) c₁ (omega arith) (R .listens) in
-      let one : messagesIn T ≡ record { fields = m; bytes = part } ∷ [] =
-      one-read (blocksFor (sizeOf (leb 512 number) + length part) - 1) (headerFor m (length part)) c B (R .answers) ∙ ap (λ (d : List ℕ). record { fields = m; bytes = d } ∷ []) (R .stands) in
-      let Read : ℕ → Type 0 = λ i. let blocks = B ++ blocksOf di i messages in AllRead (record { fields = m; bytes = part } ∷ messages) (length blocks) c (stepsOf c blocks) in
-      subst Read (R .expected)
-      (rw (run-append stepOf leaves c B G, length-append B G)
-      (record {
-        answers = map-append _ T U ∙ ap₂ (λ (xs ys : List channel.Outcome). xs ++ ys) (R .answers) (ih .answers);
-        given = messages-append T U ∙ ap₂ (λ (xs ys : List Message). xs ++ ys) one (ih .given);
-        listens = rw (left-append leaves c T U) (ih .listens);
-        expected = ap (λ (d : Channel). d .expected) (left-append leaves c T U) ∙ ih .expected ∙ omega (arith, R .expected);
-      }))
+-- messages that the writer takes
+abbrev Fits : Message → Type 0
+Fits m = (m .fields .ri ≤ 3) × (m .fields .ci ≤ 3) × (m .fields .number ≤ 16383) × (length (m .bytes) ≤ 255)
+
+abbrev AllFit : List Message → Type 0
+AllFit [] = Unit
+AllFit (m ∷ messages) = Fits m × AllFit messages
+
+-- the blocks of messages are read as these messages, and the channel expects the SC after the last block's
+messages-read : (di : Bool) (messages : List Message) (c : Channel) → AllFit messages → Listens c
+    → let blocks = blocksOf di (c .expected) messages in AllRead messages (length blocks) c (stepsOf c blocks)
+messages-read di [] c fit l = record { answers = refl; given = refl; listens = l; expected = omega (arith, rule-sc c (l .rule)) }
+messages-read di (m ∷ messages) c fit l =
+    let f = fit .0 in
+    let d = length (m .bytes) in
+    let B = messageBlocks (m .fields) di (c .expected) (m .bytes) in
+    let R = blocks-back (m .fields) di (m .bytes) c l (within-true (m .fields) (c .expected) d (omega (arith, f)) (omega (arith, f)) (omega (arith, f)) (rule-sc c (l .rule)) (f .3)) in
+    let T = stepsOf c B in
+    let c₁ = channelLeft c T in
+    let G = blocksOf di (c₁ .expected) messages in
+    let U = stepsOf c₁ G in
+    let ih = messages-read di messages c₁ (fit .1) (R .listens) in
+    let one : messagesIn T ≡ m ∷ [] =
+    one-read (blocksFor (sizeOf (leb 512 (m .fields .number)) + d) - 1) (headerFor (m .fields) d) c B (R .answers) ∙ ap (λ (b : List ℕ). record { fields = m .fields; bytes = b } ∷ []) (R .stands) in
+    let Read : ℕ → Type 0 = λ i. let blocks = B ++ blocksOf di i messages in AllRead (m ∷ messages) (length blocks) c (stepsOf c blocks) in
+    subst Read (R .expected)
+    (rw (run-append stepOf leaves c B G, length-append B G)
+    (record {
+      answers = map-append _ T U ∙ ap₂ (λ (xs ys : List channel.Outcome). xs ++ ys) (R .answers) (ih .answers);
+      given = messages-append T U ∙ ap₂ (λ (xs ys : List Message). xs ++ ys) one (ih .given);
+      listens = rw (left-append leaves c T U) (ih .listens);
+      expected = ap (λ (e : Channel). e .expected) (left-append leaves c T U) ∙ ih .expected ∙ omega (arith, R .expected);
+    }))
+
+-- those of a group, and those with copies behind them
+series-fit : (k : ℕ) (first : Bool) (number ri ci : ℕ) (s : List ℕ) → number ≤ 16383 → ri ≤ 3 → ci ≤ 3 → AllFit (messagesOf k first number ri ci s)
+series-fit zero first number ri ci s hn hr hc = tt
+series-fit (suc k) first number ri ci s hn hr hc =
+    let few : length (take 255 s) ≤ 255 = omega (arith, length-take 255 s) in
+    let next : (ci + 1) % 4 ≤ 3 = omega arith in
+    ((hr, hc, hn, few), series-fit k false number ri ((ci + 1) % 4) (drop 255 s) hn hr next)
+
+copies-fit : (m : Message) (copies : List ℕ) (later : List Message) → Fits m → TwoBits copies → AllFit later → AllFit (map (copyOf m) copies ++ later)
+copies-fit m [] later fit small rest = rest
+copies-fit m (ri ∷ copies) later fit small rest = ((small .0, fit .1, fit .2, fit .3), copies-fit m copies later fit (small .1) rest)
+
+often-fit : (sent : List Sent) → AllFit (once sent) → LastOnce sent → AllFit (often sent)
+often-fit [] fit last = tt
+often-fit (x ∷ []) fit last = (fit .0, copies-fit (x .message) (x .copies) [] (fit .0) (subst TwoBits (sym last) tt) tt)
+often-fit (x ∷ y ∷ sent) fit last = (fit .0, copies-fit (x .message) (x .copies) (often (y ∷ sent)) (fit .0) (last .0) (often-fit (y ∷ sent) (fit .1) (last .1)))
 
 -- ---- the group state: messages to the group
 
@@ -96,6 +116,12 @@ opened : (again : Bool) (k n : ℕ) (o : Outcome) (rest : List Outcome) → (k �
 opened false k n o rest h e = e
 opened true zero n o rest h e = absurd (true≢false (h refl))
 opened true (suc k) n o rest h e = let later : rest ≡ groupAnswers false k n = cc in ap (λ (a : List Outcome). repeat ∷ a) later
+
+-- k messages and the last of a group, from any state of its number: only the first answer may be another than from the idle one
+record SeriesJoins (number k : ℕ) (s : List ℕ) (g : GroupAndBuffer) (messages : List Message) (told : List GroupAfter) : Type 0 where
+  answers : map (λ t. t .answer) told ≡ groupAnswers (opensAgain g messages) k (length s)
+  state : stateLeft leftBy g told .group ≡ idle number
+  bytes : take (length s) (stateLeft leftBy g told .buffer) ≡ s
 
 -- a message that is joined on: the state and the buffer that it leaves
 module _ (number ri : ℕ) (small-number : number ≤ 16383) (small-ri : ri ≤ 3) where
@@ -160,14 +186,9 @@ module _ (number ri : ℕ) (small-number : number ≤ 16383) (small-ri : ri ≤ 
             ∙ ap (λ (r : List ℕ). take (base .held) (from .buffer) ++ r) cut;
       })
 
-  -- from any state of the number that keeps its rule; only the first answer may be another
-  record SeriesJoins (k : ℕ) (s : List ℕ) (g : GroupAndBuffer) (messages : List Message) (told : List GroupAfter) : Type 0 where
-    answers : map (λ t. t .answer) told ≡ groupAnswers (opensAgain g messages) k (length s)
-    state : stateLeft leftBy g told .group ≡ idle number
-    bytes : take (length s) (stateLeft leftBy g told .buffer) ≡ s
-
+  -- from any state of the number that keeps its rule
   series-joins : (k ci : ℕ) (s : List ℕ) (g : GroupAndBuffer) → ci ≤ 3 → length s ≤ 255 * suc k → suc k ≤ 15 → keepsRule (g .group) ≡ true → g .group .number ≡ number → 3825 ≤ length (g .buffer)
-      → let messages = messagesOf (suc k) true number ri ci s in SeriesJoins k s g messages (joinsOf g messages)
+      → let messages = messagesOf (suc k) true number ri ci s in SeriesJoins number k s g messages (joinsOf g messages)
   series-joins k ci s g hc hs hk rule is room =
       let m = groupFields number ri ci true (eqb k 0) in
       let part = take 255 s in
@@ -185,7 +206,7 @@ module _ (number ri : ℕ) (small-number : number ≤ 16383) (small-ri : ri ≤ 
       let other : joinOf (g .group) m part (g .buffer) ≡ groupAfter (cond again repeat (t .answer)) (t .group) (t .buffer) =
       first-as-idle (g .group) m part (g .buffer) rule room refl fits (ours (g .group .number) is)
       ∙ ap (λ (i : ℕ). let u = joinOf (idle i) m part (g .buffer) in groupAfter (cond again repeat (u .answer)) (u .group) (u .buffer)) is in
-      subst (λ (u : GroupAfter). SeriesJoins k s g (record { fields = m; bytes = part } ∷ rest) (u ∷ joinsOf (leftBy u) rest)) (sym other)
+      subst (λ (u : GroupAfter). SeriesJoins number k s g (record { fields = m; bytes = part } ∷ rest) (u ∷ joinsOf (leftBy u) rest)) (sym other)
       (record {
         answers = opened again k (length s) (t .answer) _ (λ e. last-new (g .group) m part (g .buffer) (eq-eqb k 0 e)) (J .answers ∙ ap (groupAnswers false k) none);
         state = J .state;
@@ -228,56 +249,57 @@ repeats-answered (t ∷ told) (x ∷ sent) =
 
 -- ---- both
 
-module _ (x : Series) (s before after : List ℕ) (w : Wrote) (c : Channel) (steps : List Stepped) (g : GroupAndBuffer)
-    (wrote : LeavesBlocks (writeGroupOf x s (length before)) w before after) (took : paper (w .answer) ≡ accepted)
-    (l : Listens c) (sc : c .expected ≡ x .sc) (did : Steps c (pieces (w .blocks) after) steps)
-    (rule : keepsRule (g .group) ≡ true) (same : g .group .number ≡ x .number) (room : 3825 ≤ length (g .buffer)) where
-  abbrev answersDue : List Outcome
-  answersDue = groupAnswers (opensAgain g (messagesIn (map toldStep steps))) (messagesFor (length s) - 1) (length s)
+-- the messages of a group through a group state
+group-joins : (x : Series) (s : List ℕ) (g : GroupAndBuffer) → seriesInWidths x (length s) ≡ true → keepsRule (g .group) ≡ true → g .group .number ≡ x .number → 3825 ≤ length (g .buffer)
+    → SeriesJoins (x .number) (messagesFor (length s) - 1) s g (groupMessages x s) (joinsOf g (groupMessages x s))
+group-joins x s g fits rule same room =
+    let b = within-widths fits in
+    let k = (length s - 1) / 255 in
+    let f = full-messages (length s) (b .4) in
+    let less : k + 1 - 1 ≡ k = omega arith in
+    let J = series-joins (x .number) (x .ri) (omega arith) (omega arith) k (x .ci) s g (omega arith) (omega arith) (omega arith) rule same room in
+    subst (λ (n : ℕ). let messages = messagesOf n true (x .number) (x .ri) (x .ci) s in SeriesJoins (x .number) (k + 1 - 1) s g messages (joinsOf g messages)) (sym (add-one k))
+    (subst (λ (j : ℕ). let messages = messagesOf (suc k) true (x .number) (x .ri) (x .ci) s in SeriesJoins (x .number) j s g messages (joinsOf g messages)) (sym less) J)
 
-  group-joined : GroupBack x s (w .blocks) c (map toldStep steps) answersDue g (joinsOf g (messagesIn (map toldStep steps)))
-  unfolding groupBlocks
-  group-joined =
-      let p = group-pieces x s before after w wrote took in
-      let b = within-widths (p .0) in
-      let n = length s in
-      let k = (n - 1) / 255 in
-      let f = full-messages n (b .4) in
-      let messages = messagesOf (suc k) true (x .number) (x .ri) (x .ci) s in
-      let blocks : pieces (w .blocks) after ≡ blocksOf (x .di) (c .expected) messages =
-      p .2 ∙ λ i. blocksOf (x .di) (sym sc i) (messagesOf (add-one k i) true (x .number) (x .ri) (x .ci) s) in
-      let count : w .blocks ≡ length (blocksOf (x .di) (c .expected) messages) = p .1 ∙ ap length (sym (p .2) ∙ blocks) in
-      let read : AllRead messages (w .blocks) c (map toldStep steps) =
-      rw (steps-told c (pieces (w .blocks) after) steps did, blocks, count)
-      (series-read (x .number) (x .ri) (x .di) (omega arith) (omega arith) (suc k) true (x .ci) s c (omega arith) l) in
-      let J = series-joins (x .number) (x .ri) (omega arith) (omega arith) k (x .ci) s g (omega arith) (omega arith) (omega arith) rule same room in
-      let less : k + 1 - 1 ≡ k = omega arith in
-      subst (λ (m : List Message). GroupBack x s (w .blocks) c (map toldStep steps) (groupAnswers (opensAgain g m) (k + 1 - 1) n) g (joinsOf g m)) (sym (read .given))
-      (record {
-        read = subst (λ (j : ℕ). AllRead (messagesOf j true (x .number) (x .ri) (x .ci) s) (w .blocks) c (map toldStep steps)) (sym (add-one k)) read;
-        answers = J .answers ∙ ap (λ (j : ℕ). groupAnswers (opensAgain g messages) j n) (sym less);
-        state = J .state;
-        bytes = J .bytes;
-      })
+group-fit : (x : Series) (s : List ℕ) → seriesInWidths x (length s) ≡ true → AllFit (groupMessages x s)
+group-fit x s fits = let b = within-widths fits in series-fit (messagesFor (length s)) true (x .number) (x .ri) (x .ci) s (omega arith) (omega arith) (omega arith)
 
-  -- A GROUP WRITTEN READS BACK
-  pub group-back : (joins : List JoinResult) → Joins g (messagesIn (map toldStep steps)) joins
-      → GroupBack x s (w .blocks) c (map toldStep steps) (groupAnswers (opensAgain g (messagesIn (map toldStep steps))) (messagesFor (length s) - 1) (length s)) g (map toldResult joins)
-  group-back joins joined =
-      subst (GroupBack x s (w .blocks) c (map toldStep steps) answersDue g) (sym (run-told joinMessage leftBy toldResult g (messagesIn (map toldStep steps)) joins joined)) group-joined
+-- A GROUP WRITTEN READS BACK
+pub group-back : (x : Series) (s before after : List ℕ) (w : Wrote) (c : Channel) (steps : List Stepped) (g : GroupAndBuffer) (joins : List JoinResult)
+    → LeavesBlocks (writeGroupOf x s (length before)) w before after → paper (w .answer) ≡ accepted
+    → Listens c → c .expected ≡ x .sc → Steps c (pieces (w .blocks) after) steps
+    → keepsRule (g .group) ≡ true → g .group .number ≡ x .number → 3825 ≤ length (g .buffer) → Joins g (messagesIn (map toldStep steps)) joins
+    → GroupBack (x .number) s (groupMessages x s) (w .blocks) c (map toldStep steps) (groupAnswers (opensAgain g (groupMessages x s)) (messagesFor (length s) - 1) (length s)) g (map toldResult joins)
+unfolding groupBlocks
+group-back x s before after w c steps g joins wrote took l sc did rule same room joined =
+    let p = group-pieces x s before after w wrote took in
+    let blocks : pieces (w .blocks) after ≡ blocksOf (x .di) (c .expected) (groupMessages x s) = p .2 ∙ λ i. blocksOf (x .di) (sym sc i) (groupMessages x s) in
+    let count : w .blocks ≡ length (blocksOf (x .di) (c .expected) (groupMessages x s)) = p .1 ∙ ap length (sym (p .2) ∙ blocks) in
+    let read : AllRead (groupMessages x s) (w .blocks) c (map toldStep steps) =
+    rw (steps-told c (pieces (w .blocks) after) steps did, blocks, count) (messages-read (x .di) (groupMessages x s) c (group-fit x s (p .0)) l) in
+    let told : map toldResult joins ≡ joinsOf g (groupMessages x s) = run-told joinMessage leftBy toldResult g (messagesIn (map toldStep steps)) joins joined ∙ ap (joinsOf g) (read .given) in
+    let J : SeriesJoins (x .number) (messagesFor (length s) - 1) s g (groupMessages x s) (map toldResult joins) = rw told (group-joins x s g (p .0) rule same room) in
+    record { read = read; answers = J .answers; state = J .state; bytes = J .bytes }
 
-  -- AND WITH EACH MESSAGE BUT THE LAST HANDED IN ANY NUMBER OF TIMES
-  pub group-back-with-repeats : (sent : List Sent) (joins : List JoinResult) → once sent ≡ messagesIn (map toldStep steps) → LastOnce sent → Joins g (often sent) joins
-      → GroupBack x s (w .blocks) c (map toldStep steps) (withRepeats (λ _. repeat) (groupAnswers (opensAgain g (once sent)) (messagesFor (length s) - 1) (length s)) sent) g (map toldResult joins)
-  group-back-with-repeats sent joins is last joined =
-      let B : GroupBack x s (w .blocks) c (map toldStep steps) (groupAnswers (opensAgain g (once sent)) (messagesFor (length s) - 1) (length s)) g (joinsOf g (once sent)) = rw is group-joined in
-      let told : map toldResult joins ≡ withRepeats repeatOf (joinsOf g (once sent)) sent =
-      run-told joinMessage leftBy toldResult g (often sent) joins joined
-      ∙ often-run g sent (all-may (messagesFor (length s) - 1) (length s) (opensAgain g (once sent)) g sent (B .answers) last) in
-      let left : stateLeft leftBy g (map toldResult joins) ≡ stateLeft leftBy g (joinsOf g (once sent)) = ap (stateLeft leftBy g) told ∙ often-left g (joinsOf g (once sent)) sent in
-      record {
-        read = B .read;
-        answers = ap (map (λ t. t .answer)) told ∙ repeats-answered (joinsOf g (once sent)) sent ∙ ap (λ (a : List Outcome). withRepeats (λ _. repeat) a sent) (B .answers);
-        state = ap (λ (u : GroupAndBuffer). u .group) left ∙ B .state;
-        bytes = ap (λ (u : GroupAndBuffer). take (length s) (u .buffer)) left ∙ B .bytes;
-      }
+-- AND WITH EACH MESSAGE BUT THE LAST SENT ANY NUMBER OF TIMES, in blocks whose SC steps on
+pub group-back-with-repeats : (x : Series) (s : List ℕ) (sent : List Sent) (c : Channel) (steps : List Stepped) (g : GroupAndBuffer) (joins : List JoinResult)
+    → seriesInWidths x (length s) ≡ true → once sent ≡ groupMessages x s → LastOnce sent
+    → Listens c → c .expected ≡ x .sc → Steps c (blocksOf (x .di) (x .sc) (often sent)) steps
+    → keepsRule (g .group) ≡ true → g .group .number ≡ x .number → 3825 ≤ length (g .buffer) → Joins g (messagesIn (map toldStep steps)) joins
+    → GroupBack (x .number) s (often sent) (length (blocksOf (x .di) (x .sc) (often sent))) c (map toldStep steps)
+    (withRepeats (λ _. repeat) (groupAnswers (opensAgain g (groupMessages x s)) (messagesFor (length s) - 1) (length s)) sent) g (map toldResult joins)
+group-back-with-repeats x s sent c steps g joins fits is last l sc did rule same room joined =
+    let read : AllRead (often sent) (length (blocksOf (x .di) (x .sc) (often sent))) c (map toldStep steps) =
+    rw (steps-told c (blocksOf (x .di) (x .sc) (often sent)) steps did, ← sc) (messages-read (x .di) (often sent) c (often-fit sent (subst AllFit (sym is) (group-fit x s fits)) last) l) in
+    let J : SeriesJoins (x .number) (messagesFor (length s) - 1) s g (groupMessages x s) (joinsOf g (once sent)) = rw is (group-joins x s g fits rule same room) in
+    let told : map toldResult joins ≡ withRepeats repeatOf (joinsOf g (once sent)) sent =
+    run-told joinMessage leftBy toldResult g (messagesIn (map toldStep steps)) joins joined
+    ∙ ap (joinsOf g) (read .given)
+    ∙ often-run g sent (all-may (messagesFor (length s) - 1) (length s) (opensAgain g (groupMessages x s)) g sent (J .answers) last) in
+    let left : stateLeft leftBy g (map toldResult joins) ≡ stateLeft leftBy g (joinsOf g (once sent)) = ap (stateLeft leftBy g) told ∙ often-left g (joinsOf g (once sent)) sent in
+    record {
+      read = read;
+      answers = ap (map (λ t. t .answer)) told ∙ repeats-answered (joinsOf g (once sent)) sent ∙ ap (λ (a : List Outcome). withRepeats (λ _. repeat) a sent) (J .answers);
+      state = ap (λ (u : GroupAndBuffer). u .group) left ∙ J .state;
+      bytes = ap (λ (u : GroupAndBuffer). take (length s) (u .buffer)) left ∙ J .bytes;
+    }

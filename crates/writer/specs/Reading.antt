@@ -26,8 +26,6 @@ use Rattle.group.specs.Leading.{Message, GroupAndBuffer, leftBy}
 use Rattle.group.specs.State.{idle, isRepeat}
 use Rattle.group.specs.Repeats.{Sent, TwoBits}
 use Rattle.writer.specs.Message.{headerFor, messageBytes, messageInWidths, flat}
-use Rattle.writer.specs.Group.{messagesFor, messagesOf}
-use Rattle.writer.specs.declared.Series.{Series}
 use Rattle.writer.specs.declared.Wrote.{Wrote}
 
 -- ---- blocks through a channel
@@ -133,10 +131,11 @@ LastOnce [] = Unit
 LastOnce (x ∷ []) = x .copies ≡ []
 LastOnce (x ∷ y ∷ sent) = TwoBits (x .copies) × LastOnce (y ∷ sent)
 
--- of a group written, its blocks through a channel, and the messages that it gave through a group state: these answers, the state idle, and the data
--- in front of the buffer
-pub record GroupBack (x : Series) (s : List ℕ) (blocks : ℕ) (c : Channel) (told : List ChannelAfter) (due : List group.Outcome) (g : GroupAndBuffer) (joined : List GroupAfter) : Type 0 where
-  pub read : AllRead (messagesOf (messagesFor (length s)) true (x .number) (x .ri) (x .ci) s) blocks c told
+-- of a group's messages written in so many blocks, these through a channel, and the messages that it gave through a group state: these answers, the
+-- state idle, and the data in front of the buffer
+pub record GroupBack (number : ℕ) (s : List ℕ) (messages : List Message) (blocks : ℕ) (c : Channel) (told : List ChannelAfter) (due : List group.Outcome) (g : GroupAndBuffer) (joined : List GroupAfter)
+    : Type 0 where
+  pub read : AllRead messages blocks c told
   pub answers : map (λ t. t .answer) joined ≡ due
-  pub state : stateLeft leftBy g joined .group ≡ idle (x .number)
+  pub state : stateLeft leftBy g joined .group ≡ idle number
   pub bytes : take (length s) (stateLeft leftBy g joined .buffer) ≡ s

@@ -79,14 +79,17 @@ is-repeat-requires c κs =
     let r = rule-room _ (p .1) in
     (r .3, omega (arith, r, p .0))
 
+repeated-requires : tie.Need-repeated-requires
+repeated-requires c κs = search needs
+
 same-length : tie.Need-same-length
 same-length c = search needs
 
 returns-5 : tie.Need-returns-5
 returns-5 c =
-    let k = c .before .before .before in
+    let k = c .before .before .before .before in
     let p = passed (k .before .before .before .before) in
-    once-more _ _ _ _ (p .0) (p .1) (p .2) (k .if4 .left) (sym (c .before .is-repeat .ensures) ∙ c .if5 .taken)
+    c .repeated .ensures _ ∙ once-more _ _ _ _ (p .0) (p .1) (p .2) (k .if4 .left) (sym (c .before .before .is-repeat .ensures) ∙ c .before .if5 .taken)
 
 idle-requires : tie.Need-idle-requires
 idle-requires c κs = search needs
@@ -188,6 +191,7 @@ join-spec =
     refused-requires-4
     returns-4
     is-repeat-requires
+    repeated-requires
     same-length
     returns-5
     idle-requires
