@@ -2,21 +2,20 @@
 ghost use mathlib.Core.Path.{_≡_};
 ghost use Rattle.text.specs.Fields.{sameAs, tabs, fieldOf};
 
-// Whether a and b hold the same bytes.
+// Whether a and b hold the same bytes. All are looked at, since a loop that may end early is compiled byte by byte.
 pub fn same(a: &[u8], b: &[u8]) -> bool
     ensures { λ r. ⌜ r ≡ sameAs (now (a .entry)) (now (b .entry)) ⌝ }
 {
     if a.len() != b.len() {
         return false;
     }
+    let mut equal = true;
     let mut i = 0;
     while i < a.len() {
-        if a[i] != b[i] {
-            return false;
-        }
+        equal = equal & (a[i] == b[i]);
         i += 1;
     }
-    true
+    equal
 }
 
 // The number of arguments of a line: one behind each tab, since the command stands before the first.
