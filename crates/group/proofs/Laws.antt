@@ -70,10 +70,15 @@ rule-gathered g e p =
 pub only-one : (held messages d : ℕ) → messages ≤ 1 → lengthHolds held messages d ≡ true → d ≡ held
 only-one held messages d h e = eqb-true d held (sym (rw (le-leb messages 1 h)) ∙ e)
 
-pub within-bounds : (m : Fields) (d : ℕ) → messageFits m d ≡ true → (d ≤ 255) × (m .ci ≤ 3)
+pub within-bounds : (m : Fields) (d : ℕ) → messageFits m d ≡ true → (m .number ≤ 16383) × (d ≤ 255) × (m .ri ≤ 3) × (m .ci ≤ 3)
 unfolding messageFits
 within-bounds m d e =
     let n = leb (m .number) 16383 in
     let t = and-eq-true-iff (n && leb d 255 && leb (m .ri) 3) (leb (m .ci) 3) .0 e in
     let u = and-eq-true-iff (n && leb d 255) (leb (m .ri) 3) .0 (t .0) in
-    (leb-true d 255 (and-eq-true-iff n (leb d 255) .0 (u .0) .1), leb-true (m .ci) 3 (t .1))
+    let v = and-eq-true-iff n (leb d 255) .0 (u .0) in
+    (leb-true (m .number) 16383 (v .0), leb-true d 255 (v .1), leb-true (m .ri) 3 (u .1), leb-true (m .ci) 3 (t .1))
+
+pub fits-true : (m : Fields) (d : ℕ) → m .number ≤ 16383 → d ≤ 255 → m .ri ≤ 3 → m .ci ≤ 3 → messageFits m d ≡ true
+unfolding messageFits
+fits-true m d hn hd hr hc = rw (le-leb _ _ hn, le-leb _ _ hd, le-leb _ _ hr, le-leb _ _ hc)

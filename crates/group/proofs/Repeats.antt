@@ -6,7 +6,7 @@ use mathlib.Core.Bool.{Bool, true, false, not, cond, _&&_, _||_, Bool·beq, and-
 use mathlib.Core.List.{List, [], _∷_, _++_, append-assoc, map}
 use native.Mathlib.Numerals.{add-one}
 use native.Mathlib.Omega.{arith}
-use borrow.Author.Tests.{eq-eqb, eqb-true, ne-eqb, le-leb, leb-true, ltb-true, not-true}
+use borrow.Author.Tests.{eq-eqb, eqb-true, ne-eqb, leb-true, ltb-true, not-true}
 use lib.Dec.{eqb, leb, ltb, eqb·suc-suc}
 use lib.ListN.{length, take, drop, replicate, take-append-drop}
 use lib.Seq.{paste, length-paste, take-at, drop-at, take-length, length-take-le}
@@ -23,7 +23,7 @@ use Rattle.group.specs.Repeats.{withRi, copyOf, Sent, once, often, TwoBi
 use Rattle.group.specs.declared.Group.{Group}
 use Rattle.group.specs.declared.Phase.{Phase}
 use Rattle.group.specs.declared.Phase.the-variants.{Idle, Gathering}
-use Rattle.group.proofs.Laws.{rule-room, rule-gathered, only-one, within-bounds}
+use Rattle.group.proofs.Laws.{rule-room, rule-gathered, only-one, within-bounds, fits-true}
 use Rattle.group.proofs.Joining.{once-more, begins, still-idle}
 use Rattle.group.proofs.Rule.{rule-number, idle-rule, gathering-rule}
 
@@ -60,13 +60,7 @@ pasted buffer s held h =
     ∙ take-length s
 
 fits-again : (m : Fields) (ri d : ℕ) → ri ≤ 3 → messageFits m d ≡ true → messageFits (withRi m ri) d ≡ true
-unfolding messageFits
-fits-again m ri d h e =
-    let n = leb (m .number) 16383 in
-    let t = and-eq-true-iff (n && leb d 255 && leb (m .ri) 3) (leb (m .ci) 3) .0 e in
-    let u = and-eq-true-iff (n && leb d 255) (leb (m .ri) 3) .0 (t .0) in
-    let v = and-eq-true-iff n (leb d 255) .0 (u .0) in
-    rw (v .0, v .1, le-leb ri 3 h, t .1)
+fits-again m ri d h e = let b = within-bounds m d e in fits-true (withRi m ri) d (b .0) (b .1) h (b .3)
 
 -- what a copy meets, by the answer t to the message: a "repeat"; or, once the group has ended by a Last that was no First, 8
 abbrev CopyMeets : Fields → Outcome → GroupAfter → GroupAfter → Type 0
@@ -104,7 +98,7 @@ module _ (m : Fields) (s : List ℕ) (ri : ℕ) (small : ri ≤ 3) where
           let again = fits-again m ri (length s) small fits in
           cond-with Copied (m .last)
           (λ _ later. sym (still-idle (idle (g .number)) (withRi m ri) s laid (omega arith) (idle-rule (g .number) hn) again ours (idle-new (g .number) (withRi m ri) s laid) later true refl refl))
-          λ last. sym (once-more next (withRi m ri) s laid (omega arith) (gathering-rule (g .number) (g .held) (g .messages) (length s) (m .ci) hn hh hm (b .0) (b .1)) again ours (next-repeat last))
+          λ last. sym (once-more next (withRi m ri) s laid (omega arith) (gathering-rule (g .number) (g .held) (g .messages) (length s) (m .ci) hn hh hm (b .1) (b .3)) again ours (next-repeat last))
 
   -- once more a repeat
   still : (g : Group) (buffer : List ℕ) → isRepeat g m s buffer ≡ true → isRepeat g (withRi m ri) s buffer ≡ true

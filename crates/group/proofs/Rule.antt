@@ -52,7 +52,7 @@ module _ (m : Fields) (s buffer : List ℕ) (fits : messageFits m (length s) ≡
   joined-kept g hn hh hm =
       let b = within-bounds m (length s) fits in
       cond-with Kept (m .last) (λ _. idle-rule (g .number) hn)
-      λ _. gathering-rule (g .number) (g .held) (g .messages) (length s) (m .ci) hn hh hm (b .0) (b .1)
+      λ _. gathering-rule (g .number) (g .held) (g .messages) (length s) (m .ci) hn hh hm (b .1) (b .3)
 
 pub rule-kept : (g : Group) (m : Fields) (s buffer : List ℕ) → keepsRule g ≡ true → keepsRule (joinOf g m s buffer .group) ≡ true
 unfolding joinOf

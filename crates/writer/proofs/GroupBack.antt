@@ -6,7 +6,7 @@ use mathlib.Core.Bool.{Bool, true, false, not, cond, _||_, true≢false}
 use mathlib.Core.List.{List, [], _∷_, _++_, map, map-append, append-assoc}
 use native.Mathlib.Numerals.{add-one}
 use native.Mathlib.Omega.{arith}
-use borrow.Author.Tests.{eq-eqb, le-leb}
+use borrow.Author.Tests.{eq-eqb}
 use lib.Dec.{eqb, leb, eqb·suc-zero}
 use lib.ListN.{length, take, drop, replicate, length-append, length-take, length-drop, take-append-drop}
 use lib.Seq.{paste, length-paste, take-all}
@@ -28,6 +28,7 @@ use Rattle.group.specs.Repeats.{copyOf, Sent, once, often, TwoBits, MayRepeat, 
 use Rattle.group.specs.declared.Group.{Group}
 use Rattle.group.specs.declared.Phase.the-variants.{Gathering}
 use Rattle.group.proofs.Joining as joining
+use Rattle.group.proofs.Laws.{fits-true}
 use Rattle.group.proofs.Rule.{idle-rule, gathering-rule}
 use Rattle.group.proofs.Leading.{front}
 use Rattle.group.proofs.Repeats.{joinsOf, often-run, often-left, idle-new, stepped-new, last-new, first-as-idle}
@@ -126,8 +127,7 @@ record SeriesJoins (number k : ℕ) (s : List ℕ) (g : GroupAndBuffer) (message
 -- a message that is joined on: the state and the buffer that it leaves
 module _ (number ri : ℕ) (small-number : number ≤ 16383) (small-ri : ri ≤ 3) where
   allowed : (ci d : ℕ) (first last : Bool) → ci ≤ 3 → d ≤ 255 → messageFits (groupFields number ri ci first last) d ≡ true
-  unfolding messageFits
-  allowed ci d first last hc hd = rw (le-leb _ _ small-number, le-leb _ _ hd, le-leb _ _ small-ri, le-leb _ _ hc)
+  allowed ci d first last hc hd = fits-true (groupFields number ri ci first last) d small-number hd small-ri hc
 
   -- not First: gathering, CI one more, less than fifteen messages
   follows : (held messages ci d : ℕ) (last : Bool) (s buffer : List ℕ) → keepsRule (groupWith number Gathering held messages ci d) ≡ true → ci ≤ 3 → length s ≤ 255 → messages < 15 → 3825 ≤ length buffer

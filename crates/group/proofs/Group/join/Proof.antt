@@ -101,7 +101,7 @@ join-on-requires c κs =
     let p = known f in
     let none = ap (λ (g : Group). g .held) (c .before .idle .ensures) in
     let first = ap (λ (g : Group). g .messages) (c .before .idle .ensures) in
-    (omega (arith, first), omega (arith, none, p .0, within-bounds (a .message) (length (a .«data» .now)) (p .2) .0))
+    (omega (arith, first), omega (arith, none, p .0, within-bounds (a .message) (length (a .«data» .now)) (p .2) .1))
 
 same-length-2 : tie.Need-same-length-2
 same-length-2 c = search needs
@@ -164,7 +164,7 @@ join-on-requires-2 c κs =
     let a = f .before .before .before .before .before .before .before .before .before .before .before .before .before .before .args in
     let p = known f in
     let r = rule-room (a .self) (p .1) in
-    (c .before .if9 .left, omega (arith, r, p .0, within-bounds (a .message) (length (a .«data» .now)) (p .2) .0, c .before .if9 .left))
+    (c .before .if9 .left, omega (arith, r, p .0, within-bounds (a .message) (length (a .«data» .now)) (p .2) .1, c .before .if9 .left))
 
 same-length-6 : tie.Need-same-length-6
 same-length-6 c = search needs
