@@ -49,7 +49,7 @@ static void make_blocks(void) {
     }
 }
 
-// One in eight comes again, and of these one in eight once more.
+// One in eight comes again, of these one in eight once more, and so on.
 static void put_message(int ri, int ci, int flags, int number, int length) {
     u8 record[RECORD] = {ri, ci, flags, number & 255, number >> 8, length & 255, length >> 8};
     for (int i = DATA_AT; i < RECORD; i++) record[i] = below(256);

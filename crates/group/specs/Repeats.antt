@@ -16,7 +16,7 @@ withRi m ri = record { ri = ri; ci = m .ci; first = m .first; last = m .last; nu
 abbrev pub copyOf : Message → ℕ → Message
 copyOf m ri = record { fields = withRi (m .fields) ri; bytes = m .bytes }
 
--- a message, and the RI of each copy of it that comes behind it
+-- a message, and the RI of each copy of it that comes directly behind it
 pub record Sent : Type 0 where
   pub message : Message
   pub copies : List ℕ
@@ -25,7 +25,7 @@ pub record Sent : Type 0 where
 abbrev pub once : List Sent → List Message
 once sent = map (λ x. x .message) sent
 
--- and each with its copies behind it
+-- and each with its copies directly behind it
 abbrev pub often : List Sent → List Message
 often [] = []
 often (x ∷ sent) = x .message ∷ (map (copyOf (x .message)) (x .copies) ++ often sent)
@@ -35,14 +35,14 @@ abbrev pub TwoBits : List ℕ → Type 0
 TwoBits [] = Unit
 TwoBits (ri ∷ copies) = (ri ≤ 3) × TwoBits copies
 
--- any copies behind a message that is answered "taken", or "repeat" itself; none behind one that ends a group or is refused
+-- any copies with an RI of two bits behind a message that is answered "taken", or "repeat" itself; none behind one that ends a group or is refused
 abbrev pub MayRepeat : Outcome → List ℕ → Type 0
 MayRepeat taken copies = TwoBits copies
 MayRepeat repeat copies = TwoBits copies
 MayRepeat (whole n) copies = copies ≡ []
 MayRepeat (refused n) copies = copies ≡ []
 
--- so of each message, by what is told of it where each comes once
+-- the same of every message, by the answer that it gets where none is copied
 abbrev pub AllMayRepeat : List GroupAfter → List Sent → Type 0
 AllMayRepeat [] [] = Unit
 AllMayRepeat [] (x ∷ sent) = ⊥

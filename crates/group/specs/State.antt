@@ -27,7 +27,7 @@ unfoldable pub newOf : ℕ → Made
 newOf number = unless (leb number 16383) (made (numbers.refused 11) (idle 0)) (made numbers.accepted (idle number))
 
 -- the length of the message last joined on: all bytes held after one message, else at most 255 and at most the bytes held, leaving at most 255 for
--- each message before
+-- each message before (`phaseHolds` asks for one message at least)
 abbrev pub lengthHolds : ℕ → ℕ → ℕ → Bool
 lengthHolds held messages d = cond (leb messages 1) (eqb d held) (leb d 255 && leb d held && leb (held - d) (255 * (messages - 1)))
 

@@ -1,5 +1,5 @@
-// Groups of document 01: a group state joins the data of up to fifteen messages of one service number in a lent
-// buffer.
+// Groups of document 01, with the repeats of ticket 2: a group state joins the data of up to fifteen messages of one
+// service number in a lent buffer.
 ghost use mathlib.Core.Path.{_≡_};
 ghost use Rattle.answers.specs.Numbers.{paper};
 ghost use Rattle.group.specs.Answers.{made, toldJoin};

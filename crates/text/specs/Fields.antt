@@ -1,4 +1,5 @@
--- docs/PROBE.md: a line is a command and its arguments, parted by tabs. Assumes nothing.
+-- docs/PROBE.md: a line is a command and its arguments, parted by tabs; and bytes that are the same, as the log and the group state compare them too.
+-- Assumes nothing.
 use Prim.Native.Nat.{ℕ, zero, suc}
 use mathlib.Core.Bool.{Bool, true, false, cond, _&&_}
 use mathlib.Core.List.{List, [], _∷_}

@@ -1,5 +1,5 @@
--- WHAT THE GROUP WRITER WRITES READS BACK: through a ready channel that expects the starting SC, and each message, once or with copies behind it,
--- through a group state of that number. Assumes nothing.
+-- WHAT THE GROUP WRITER WRITES READS BACK: through a ready channel that expects the starting SC, and each message through a group state of that number.
+-- And so do a group's messages with copies behind each but the last, as the message writer writes one after the other. Assumes nothing.
 use Prim.Native.Nat.{ℕ, zero, suc, _+_, _-_, _*_, _/_, _%_, _≤_, _<_}
 use mathlib.Core.Path.{_≡_, refl, sym, ap, ap₂, _∙_, subst}
 use mathlib.Core.Bool.{Bool, true, false, not, cond, _||_, true≢false}
@@ -24,7 +24,7 @@ use Rattle.channel.proofs.Laws.{rule-sc}
 use Rattle.group.specs.Answers.{Outcome, taken, repeat, whole, refused, GroupAfter, groupAfter}
 use Rattle.group.specs.State.{groupWith, idle, keepsRule, messageFits, isRepeat, joinedOn, joinOf}
 use Rattle.group.specs.Leading.{Message, GroupAndBuffer, JoinResult, toldResult, joinMessage, leftBy, Joins}
-use Rattle.group.specs.Repeats.{copyOf, Sent, once, often, TwoBits, MayRepeat, AllMayRepeat, withRepeats, repeatOf}
+use Rattle.group.specs.Repeats.{Sent, once, often, TwoBits, MayRepeat, AllMayRepeat, withRepeats, repeatOf}
 use Rattle.group.specs.declared.Group.{Group}
 use Rattle.group.specs.declared.Phase.the-variants.{Gathering}
 use Rattle.group.proofs.Joining as joining
@@ -32,7 +32,7 @@ use Rattle.group.proofs.Laws.{fits-true}
 use Rattle.group.proofs.Rule.{idle-rule, gathering-rule}
 use Rattle.group.proofs.Leading.{front}
 use Rattle.group.proofs.Repeats.{joinsOf, often-run, often-left, idle-new, stepped-new, last-new, first-as-idle}
-use Rattle.writer.specs.Reading.{pieces, Steps, answersIn, channelLeft, Listens, messageIn, messagesIn, AllRead, opensAgain, groupAnswers, LastOnce, GroupBack}
+use Rattle.writer.specs.Reading.{pieces, Steps, answersIn, channelLeft, Listens, messageIn, messagesIn, AllRead, firstIsRepeat, groupAnswers, WroteMessage, WroteAll, blocksLeft, LastOnce, GroupBack}
 use Rattle.writer.specs.Message.{headerFor, messageBlocks, flat, LeavesBlocks}
 use Rattle.writer.specs.Group.{seriesInWidths, groupFields, messagesFor, messagesOf, groupMessages, blocksOf, groupBlocks, writeGroupOf}
 use Rattle.writer.specs.declared.Series.{Series}
@@ -40,7 +40,7 @@ use Rattle.writer.specs.declared.Wrote.{Wrote}
 use Rattle.writer.proofs.Runs.{leaves, stepsOf, steps-told, run-elim}
 use Rattle.writer.proofs.ReadBack.{blocks-back}
 use Rattle.writer.proofs.Laws.{within-widths, within-true}
-use Rattle.writer.proofs.Writing.{flat-append}
+use Rattle.writer.proofs.Writing.{flat-append, message-pieces}
 use Rattle.writer.proofs.GroupWriting.{full-messages, group-pieces}
 
 -- ---- the channel: blocks to messages
@@ -93,7 +93,7 @@ messages-read di (m ∷ messages) c fit l =
       expected = ap (λ (e : Channel). e .expected) (left-append leaves c T U) ∙ ih .expected ∙ omega (arith, R .expected);
     }))
 
--- those of a group, and those with copies behind them
+-- those of a group
 series-fit : (k : ℕ) (first : Bool) (number ri ci : ℕ) (s : List ℕ) → number ≤ 16383 → ri ≤ 3 → ci ≤ 3 → AllFit (messagesOf k first number ri ci s)
 series-fit zero first number ri ci s hn hr hc = tt
 series-fit (suc k) first number ri ci s hn hr hc =
@@ -101,14 +101,19 @@ series-fit (suc k) first number ri ci s hn hr hc =
     let next : (ci + 1) % 4 ≤ 3 = omega arith in
     ((hr, hc, hn, few), series-fit k false number ri ((ci + 1) % 4) (drop 255 s) hn hr next)
 
-copies-fit : (m : Message) (copies : List ℕ) (later : List Message) → Fits m → TwoBits copies → AllFit later → AllFit (map (copyOf m) copies ++ later)
-copies-fit m [] later fit small rest = rest
-copies-fit m (ri ∷ copies) later fit small rest = ((small .0, fit .1, fit .2, fit .3), copies-fit m copies later fit (small .1) rest)
-
-often-fit : (sent : List Sent) → AllFit (once sent) → LastOnce sent → AllFit (often sent)
-often-fit [] fit last = tt
-often-fit (x ∷ []) fit last = (fit .0, copies-fit (x .message) (x .copies) [] (fit .0) (subst TwoBits (sym last) tt) tt)
-often-fit (x ∷ y ∷ sent) fit last = (fit .0, copies-fit (x .message) (x .copies) (often (y ∷ sent)) (fit .0) (last .0) (often-fit (y ∷ sent) (fit .1) (last .1)))
+-- those that the message writer accepted, one after the other, and their blocks
+all-wrote : (di : Bool) (sc : ℕ) (messages : List Message) (written : List WroteMessage) → WroteAll di sc messages written → AllFit messages × (blocksLeft written ≡ blocksOf di sc messages)
+all-wrote di sc [] [] did = (tt, refl)
+all-wrote di sc [] (o ∷ written) did = absurd did
+all-wrote di sc (m ∷ messages) [] did = absurd did
+all-wrote di sc (m ∷ messages) (o ∷ written) did =
+    let p = message-pieces (m .fields) di sc (m .bytes) (o .before) (o .after) (o .wrote) (did .0 .2) (did .0 .1) in
+    let b = within-widths (p .0) in
+    let ih = all-wrote di ((o .sc + o .wrote .blocks) % 16) messages written (did .1) in
+    let next : (o .sc + o .wrote .blocks) % 16 ≡ (sc + length (messageBlocks (m .fields) di sc (m .bytes))) % 16 = λ i. (did .0 .0 i + p .1 i) % 16 in (
+      ((omega (arith, b), omega (arith, b), omega (arith, b), b .4), ih .0),
+      ap₂ (λ (xs ys : List (List ℕ)). xs ++ ys) (p .2) (ih .1 ∙ ap (λ (k : ℕ). blocksOf di k messages) next),
+    )
 
 -- ---- the group state: messages to the group
 
@@ -120,7 +125,7 @@ opened true (suc k) n o rest h e = let later : rest ≡ groupAnswers false k n =
 
 -- k messages and the last of a group, from any state of its number: only the first answer may be another than from the idle one
 record SeriesJoins (number k : ℕ) (s : List ℕ) (g : GroupAndBuffer) (messages : List Message) (told : List GroupAfter) : Type 0 where
-  answers : map (λ t. t .answer) told ≡ groupAnswers (opensAgain g messages) k (length s)
+  answers : map (λ t. t .answer) told ≡ groupAnswers (firstIsRepeat g messages) k (length s)
   state : stateLeft leftBy g told .group ≡ idle number
   bytes : take (length s) (stateLeft leftBy g told .buffer) ≡ s
 
@@ -269,7 +274,7 @@ pub group-back : (x : Series) (s before after : List ℕ) (w : Wrote) (c : Chann
     → LeavesBlocks (writeGroupOf x s (length before)) w before after → paper (w .answer) ≡ accepted
     → Listens c → c .expected ≡ x .sc → Steps c (pieces (w .blocks) after) steps
     → keepsRule (g .group) ≡ true → g .group .number ≡ x .number → 3825 ≤ length (g .buffer) → Joins g (messagesIn (map toldStep steps)) joins
-    → GroupBack (x .number) s (groupMessages x s) (w .blocks) c (map toldStep steps) (groupAnswers (opensAgain g (groupMessages x s)) (messagesFor (length s) - 1) (length s)) g (map toldResult joins)
+    → GroupBack (x .number) s (groupMessages x s) (w .blocks) c (map toldStep steps) (groupAnswers (firstIsRepeat g (groupMessages x s)) (messagesFor (length s) - 1) (length s)) g (map toldResult joins)
 unfolding groupBlocks
 group-back x s before after w c steps g joins wrote took l sc did rule same room joined =
     let p = group-pieces x s before after w wrote took in
@@ -281,21 +286,22 @@ group-back x s before after w c steps g joins wrote took l sc did rule same room
     let J : SeriesJoins (x .number) (messagesFor (length s) - 1) s g (groupMessages x s) (map toldResult joins) = rw told (group-joins x s g (p .0) rule same room) in
     record { read = read; answers = J .answers; state = J .state; bytes = J .bytes }
 
--- AND WITH EACH MESSAGE BUT THE LAST SENT ANY NUMBER OF TIMES, in blocks whose SC steps on
-pub group-back-with-repeats : (x : Series) (s : List ℕ) (sent : List Sent) (c : Channel) (steps : List Stepped) (g : GroupAndBuffer) (joins : List JoinResult)
-    → seriesInWidths x (length s) ≡ true → once sent ≡ groupMessages x s → LastOnce sent
-    → Listens c → c .expected ≡ x .sc → Steps c (blocksOf (x .di) (x .sc) (often sent)) steps
+-- AND WITH EACH MESSAGE BUT THE LAST SENT ANY NUMBER OF TIMES, as the message writer writes one after the other
+pub group-back-with-repeats : (x : Series) (s : List ℕ) (sent : List Sent) (written : List WroteMessage) (c : Channel) (steps : List Stepped) (g : GroupAndBuffer) (joins : List JoinResult)
+    → seriesInWidths x (length s) ≡ true → once sent ≡ groupMessages x s → LastOnce sent → WroteAll (x .di) (x .sc) (often sent) written
+    → Listens c → c .expected ≡ x .sc → Steps c (blocksLeft written) steps
     → keepsRule (g .group) ≡ true → g .group .number ≡ x .number → 3825 ≤ length (g .buffer) → Joins g (messagesIn (map toldStep steps)) joins
-    → GroupBack (x .number) s (often sent) (length (blocksOf (x .di) (x .sc) (often sent))) c (map toldStep steps)
-    (withRepeats (λ _. repeat) (groupAnswers (opensAgain g (groupMessages x s)) (messagesFor (length s) - 1) (length s)) sent) g (map toldResult joins)
-group-back-with-repeats x s sent c steps g joins fits is last l sc did rule same room joined =
-    let read : AllRead (often sent) (length (blocksOf (x .di) (x .sc) (often sent))) c (map toldStep steps) =
-    rw (steps-told c (blocksOf (x .di) (x .sc) (often sent)) steps did, ← sc) (messages-read (x .di) (often sent) c (often-fit sent (subst AllFit (sym is) (group-fit x s fits)) last) l) in
+    → GroupBack (x .number) s (often sent) (length (blocksLeft written)) c (map toldStep steps)
+    (withRepeats (λ _. repeat) (groupAnswers (firstIsRepeat g (groupMessages x s)) (messagesFor (length s) - 1) (length s)) sent) g (map toldResult joins)
+group-back-with-repeats x s sent written c steps g joins fits is last wrote l sc did rule same room joined =
+    let W = all-wrote (x .di) (x .sc) (often sent) written wrote in
+    let read : AllRead (often sent) (length (blocksLeft written)) c (map toldStep steps) =
+    rw (steps-told c (blocksLeft written) steps did, W .1, ← sc) (messages-read (x .di) (often sent) c (W .0) l) in
     let J : SeriesJoins (x .number) (messagesFor (length s) - 1) s g (groupMessages x s) (joinsOf g (once sent)) = rw is (group-joins x s g fits rule same room) in
     let told : map toldResult joins ≡ withRepeats repeatOf (joinsOf g (once sent)) sent =
     run-told joinMessage leftBy toldResult g (messagesIn (map toldStep steps)) joins joined
     ∙ ap (joinsOf g) (read .given)
-    ∙ often-run g sent (all-may (messagesFor (length s) - 1) (length s) (opensAgain g (groupMessages x s)) g sent (J .answers) last) in
+    ∙ often-run g sent (all-may (messagesFor (length s) - 1) (length s) (firstIsRepeat g (groupMessages x s)) g sent (J .answers) last) in
     let left : stateLeft leftBy g (map toldResult joins) ≡ stateLeft leftBy g (joinsOf g (once sent)) = ap (stateLeft leftBy g) told ∙ often-left g (joinsOf g (once sent)) sent in
     record {
       read = read;

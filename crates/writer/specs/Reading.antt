@@ -1,7 +1,7 @@
 -- Document 01, "Reading back is claimed from a ready channel that expects the starting SC. Written again, an accepted message has the same
 -- header, data and padding, and the same blocks where its first SC is given and all its DIs were the one given." What these claims say: `ReadBack`,
--- `WrittenAgain` and `GroupBack` (with ticket 2 of document 02, by which messages are repeated) of any outcomes that the contracts of the writers, of
--- `Channel::step` and of `Group::join` allow, `MessageAgain` of the bytes of a message, as the writer's definitions lay them out. Assumes nothing.
+-- `WrittenAgain` and `GroupBack` of any outcomes that the contracts of the writers, of `Channel::step` and of `Group::join` allow, `MessageAgain` of
+-- the bytes of a message, as the writer's definitions lay them out. With ticket 2 of document 02 a group's messages may be sent again. Assumes nothing.
 use Prim.Native.Nat.{ℕ, zero, suc, _+_, _-_, _%_, _≤_}
 use mathlib.Core.Path.{_≡_}
 use mathlib.Core.Bool.{Bool, true, false, cond}
@@ -25,7 +25,7 @@ use Rattle.group.specs.Answers.{GroupAfter}
 use Rattle.group.specs.Leading.{Message, GroupAndBuffer, leftBy}
 use Rattle.group.specs.State.{idle, isRepeat}
 use Rattle.group.specs.Repeats.{Sent, TwoBits}
-use Rattle.writer.specs.Message.{headerFor, messageBytes, messageInWidths, flat}
+use Rattle.writer.specs.Message.{headerFor, messageBytes, messageInWidths, writeMessageOf, flat, LeavesBlocks}
 use Rattle.writer.specs.declared.Wrote.{Wrote}
 
 -- ---- blocks through a channel
@@ -115,15 +115,33 @@ pub record AllRead (messages : List Message) (blocks : ℕ) (c : Channel) (told 
   pub listens : Listens (channelLeft c told)
   pub expected : channelLeft c told .expected ≡ (c .expected + blocks) % 16
 
--- the first of these messages is a repeat, as to a state that holds just this one
-abbrev pub opensAgain : GroupAndBuffer → List Message → Bool
-opensAgain g [] = false
-opensAgain g (m ∷ messages) = isRepeat (g .group) (m .fields) (m .bytes) (g .buffer)
+-- whether the first of these messages is a repeat to this state, which then holds just that message
+abbrev pub firstIsRepeat : GroupAndBuffer → List Message → Bool
+firstIsRepeat g [] = false
+firstIsRepeat g (m ∷ messages) = isRepeat (g .group) (m .fields) (m .bytes) (g .buffer)
 
--- the answers to k messages and the one that makes a group of n bytes: "taken" .. "group", but "repeat" where the first of several opens again
+-- the answers to k messages and the one that makes a group of n bytes: "taken" .. "group", but "repeat" to the first of several where it is one
 abbrev pub groupAnswers : Bool → ℕ → ℕ → List group.Outcome
 groupAnswers again zero n = group.whole n ∷ []
 groupAnswers again (suc k) n = cond again group.repeat group.taken ∷ groupAnswers false k n
+
+-- what `write_message` gave for a message: the SC it was to start with, what it returned, and the output before and after
+pub record WroteMessage : Type 0 where
+  pub sc : ℕ
+  pub wrote : Wrote
+  pub before : List ℕ
+  pub after : List ℕ
+
+-- what it gave, accepted, for message after message with one DI, each time with the SC that follows the blocks before
+abbrev pub WroteAll : Bool → ℕ → List Message → List WroteMessage → Type 0
+WroteAll di =
+    Run
+    (λ sc m o. (o .sc ≡ sc) × (answers.paper (o .wrote .answer) ≡ answers.accepted) × LeavesBlocks (writeMessageOf (m .fields) di sc (m .bytes) (length (o .before))) (o .wrote) (o .before) (o .after))
+    (λ o. (o .sc + o .wrote .blocks) % 16)
+
+-- the blocks that it left, one message's after the other's
+abbrev pub blocksLeft : List WroteMessage → List (List ℕ)
+blocksLeft written = flat (map (λ o. pieces (o .wrote .blocks) (o .after)) written)
 
 -- each message but the last with any copies behind it, their RI of two bits; the last with none
 abbrev pub LastOnce : List Sent → Type 0

@@ -38,6 +38,7 @@ pub fn repeated(random: &Random, number: u16) -> Vec<Case> {
 }
 
 /// The message before the one last joined on comes again: a First restarts, another is too late.
+/// Now and then it is the Last, which finds the state idle.
 pub fn older_again(random: &Random, number: u16) -> Vec<Case> {
     let mut messages = some_group(random, number);
     let place = random.below(messages.len());
@@ -198,7 +199,7 @@ const LENGTHS: [(bool, u32, u8, u32); 40] = [
     (true, 3570, 15, 0),
     (true, 3571, 15, 0),
     (true, 3825, 15, 254),
-    // Good modulo 2^8, 2^16 or 2^32.
+    // Good modulo 2^8 or 2^16, or as numbers with a sign.
     (true, 100, 2, 356),
     (true, 100, 2, 65_636),
     (true, 65_636, 2, 100),
