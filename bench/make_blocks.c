@@ -1,5 +1,5 @@
-// Makes blocks of 34 bytes: code words of random information, `clean`, with `eight` errors each, or a `mixture` of none to
-// twelve errors and of random rows. The check bits of one word in fifteen are wrong.
+// Makes blocks of 34 bytes: code words of random information, `clean` or with `eight` errors each, `random` rows, or a
+// `mixture` of none to twelve errors and of random rows. The check bits of one word in fifteen are wrong.
 #include "make.h"
 
 enum { PLACES = 272, INFORMATION = 176, CHECKED = 190 };
@@ -18,8 +18,13 @@ static void append(u8 *row, int places, int degree, const int *power, int powers
     for (int p = places; p < places + degree; p++) row[p] = rest[p];
 }
 
+static void make_bits(u8 *row, int places) {
+    for (int p = 0; p < places; p++) row[p] = next() >> 40 & 1;
+}
+
 static void make_word(u8 *row, int checks) {
-    for (int p = 0; p < PLACES; p++) row[p] = p < INFORMATION ? next() >> 40 & 1 : 0;
+    make_bits(row, INFORMATION);
+    for (int p = INFORMATION; p < PLACES; p++) row[p] = 0;
     append(row, INFORMATION, CHECKED - INFORMATION, check, sizeof check / sizeof *check);
     row[INFORMATION] ^= !checks;
     append(row, CHECKED, PLACES - CHECKED, generator, sizeof generator / sizeof *generator);
@@ -47,10 +52,8 @@ static void make(char kind) {
         u8 row[PLACES];
         make_word(row, n % 15 < 14);
         if (kind == 'e') damage(row, 8);
-        if (kind == 'm') {
-            if (n % 14 < 13) damage(row, n % 14);
-            else for (int p = 0; p < PLACES; p++) row[p] = next() >> 40 & 1;
-        }
+        if (kind == 'm' && n % 14 < 13) damage(row, n % 14);
+        if (kind == 'r' || (kind == 'm' && n % 14 == 13)) make_bits(row, PLACES);
         put_row(row);
     }
 }

@@ -9,7 +9,7 @@ use group::Group;
 use group::Step;
 use group::Stepped;
 
-pub const RECORD_BYTES: usize = 264;
+const RECORD_BYTES: usize = 264;
 
 const DATA_AT: usize = 8;
 
@@ -19,13 +19,36 @@ const NUMBER: u16 = 1000;
 // What a repeat adds to the sum: no group is so long.
 const REPEATED: u64 = 3826;
 
-pub(crate) fn fresh() -> Group {
+// The state and the buffer stand here, so that nothing copies them.
+pub(crate) fn take(input: &[u8], count: u32) -> u64 {
+    if input.len() < RECORD_BYTES {
+        return 0;
+    }
+    let mut group = fresh();
+    let mut buffer = [0u8; Group::MOST_BYTES];
+    let mut sum: u64 = 0;
+    let mut at: usize = 0;
+    let mut left = count;
+    while left > 0 {
+        left -= 1;
+        let end = at + RECORD_BYTES;
+        let stepped = join(group, &input[at..end], &mut buffer);
+        let answer = stepped.answer;
+        let next = stepped.group;
+        group = next;
+        sum = told(sum, answer);
+        at = records::next(end, RECORD_BYTES, input.len());
+    }
+    records::add_bytes(add_counts(sum, group), &buffer)
+}
+
+fn fresh() -> Group {
     let made = Group::new(NUMBER);
     let group = made.group;
     group
 }
 
-pub(crate) fn join(group: Group, message: &[u8], buffer: &mut [u8]) -> Stepped
+fn join(group: Group, message: &[u8], buffer: &mut [u8]) -> Stepped
     requires { ⌜ length (now message) ≡ 264 ⌝ }
 {
     let end = data_end(message);
@@ -58,7 +81,7 @@ fn data_end(message: &[u8]) -> usize
     DATA_AT + (number_of(message[5], message[6]) % 257) as usize
 }
 
-pub(crate) fn told(sum: u64, answer: Step) -> u64 {
+fn told(sum: u64, answer: Step) -> u64 {
     match answer {
         Step::Taken => records::add(sum, 0),
         Step::Repeat => records::add(sum, REPEATED),
@@ -68,7 +91,7 @@ pub(crate) fn told(sum: u64, answer: Step) -> u64 {
 }
 
 // The phase follows from the answers.
-pub(crate) fn add_counts(sum: u64, group: Group) -> u64 {
+fn add_counts(sum: u64, group: Group) -> u64 {
     let counts = records::add(records::add(sum, group.held as u64), group.messages as u64);
     records::add(
         records::add(counts, group.ci as u64),

@@ -2,9 +2,32 @@
 use crate::records;
 use channel::Channel;
 use channel::Header;
+use channel::INFORMATION_BYTES;
 use channel::Step;
 
-pub(crate) fn told(sum: u64, answer: Step) -> u64 {
+// The state stands here, so that nothing copies it but the function that is timed.
+pub(crate) fn take(input: &[u8], count: u32) -> u64 {
+    if input.len() < INFORMATION_BYTES {
+        return 0;
+    }
+    let mut channel = Channel::new();
+    let mut sum: u64 = 0;
+    let mut at: usize = 0;
+    let mut left = count;
+    while left > 0 {
+        left -= 1;
+        let end = at + INFORMATION_BYTES;
+        let stepped = channel.step(&input[at..end]);
+        let answer = stepped.answer;
+        let next = stepped.channel;
+        channel = next;
+        sum = told(sum, answer);
+        at = records::next(end, INFORMATION_BYTES, input.len());
+    }
+    add_state(sum, channel)
+}
+
+fn told(sum: u64, answer: Step) -> u64 {
     match answer {
         Step::Taken => records::add(sum, 0),
         Step::Message(header) => add_header(sum, header),
@@ -26,7 +49,7 @@ fn add_header(sum: u64, header: Header) -> u64 {
 }
 
 // The phase follows from the answers.
-pub(crate) fn add_state(sum: u64, channel: Channel) -> u64 {
+fn add_state(sum: u64, channel: Channel) -> u64 {
     let bytes = channel.bytes;
     let numbers = records::add(
         records::add(sum, channel.gathered as u64),

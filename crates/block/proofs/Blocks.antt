@@ -1,19 +1,19 @@
 -- Check bits, and the row of a written block. Assumes nothing.
 use mathlib.Core.Path.{_≡_, refl, sym, ap, _∙_, subst}
-use mathlib.Core.Bool.{Bool, true, false}
+use mathlib.Core.Bool.{Bool, false}
 use mathlib.Core.List.{List, _++_, append-nil}
 use mathlib.Core.Logic.{_↔_}
 use Prim.Native.Nat.{ℕ, _+_, _-_, _*_, _≤_}
 use native.Mathlib.Omega.{arith}
 use lib.ListN.{length, take, drop, replicate, take-append-drop, length-append, length-drop, length-replicate, replicate-append-replicate}
-use lib.Seq.{length-take-le, take-take, take-at, drop-at, take-append-add, drop-append-add}
-use Rattle.gf2.specs.Poly.{Multiple, remainder, checkOf, systematic, allZero}
-use Rattle.gf2.proofs.Remainders.{multiple-tested, systematic-multiple, only-ending, length-check}
+use lib.Seq.{length-take-le, take-at, drop-at, take-append-add, drop-append-add}
+use Rattle.gf2.specs.Poly.{Multiple, checkOf, systematic}
+use Rattle.gf2.proofs.Remainders.{systematic-multiple, only-ending, length-check}
 use Rattle.code.specs.Code.{generator}
 use Rattle.code.proofs.Computed.{generator-length}
-use Rattle.block.specs.Bytes.{rowOf}
-use Rattle.block.specs.Blocks.{checkDivisor, CheckRight, blockRow}
-use Rattle.block.proofs.Bytes.{length-bitsOf}
+use Rattle.words.specs.Bytes.{rowOf}
+use Rattle.block.specs.Blocks.{checkDivisor, blockRow}
+use Rattle.words.proofs.Bytes.{length-bitsOf}
 use Rattle.block.proofs.Checks.{check-length}
 
 pub length-systematic : (low info : List Bool) → length (systematic low info) ≡ length info + length low
@@ -33,19 +33,6 @@ ending-tested low row k l = (λ m. only-ending low (take k row) (drop k row) (le
     whole e =
         subst (λ (xs : List Bool). Multiple low k xs) (ap (λ xs. take k row ++ xs) (sym e) ∙ take-append-drop k row)
         (subst (λ (n : ℕ). Multiple low n (systematic low (take k row))) long (systematic-multiple low (take k row)))
-
--- THE TEST OF A REMAINDER TELLS RIGHT CHECK BITS
-pub check-tested : (word : List Bool) → length word ≡ 272 → (allZero (remainder checkDivisor 176 (take 190 word)) ≡ true) ↔ CheckRight word
-check-tested word l = (
-  λ t. ending-tested checkDivisor (take 190 word) 176 long .0 (multiple-tested checkDivisor 176 (take 190 word) long .0 t) ∙ ap (checkOf checkDivisor) front,
-  λ r. multiple-tested checkDivisor 176 (take 190 word) long .1 (ending-tested checkDivisor (take 190 word) 176 long .1 (r ∙ ap (checkOf checkDivisor) (sym front))),
-)
-  where
-    long : length (take 190 word) ≡ 176 + length checkDivisor
-    long = length-take-le 190 word (omega arith) ∙ omega (arith, check-length)
-
-    front : take 176 (take 190 word) ≡ take 176 word
-    front = take-take 176 190 word (omega arith)
 
 -- a row of information and zeros, with the check put behind the information
 pub padded-zeros : (row xs : List Bool) (at d n : ℕ) → row ≡ xs ++ replicate (d + n) false → length xs ≡ at

@@ -11,12 +11,13 @@ use Rattle.answers.proofs.Determined.{refused-accepted}
 use Rattle.gf2.proofs.Remainders.{add-twice}
 use Rattle.code.specs.Code.{CodeWord, difference, ones, mostCorrected}
 use Rattle.block.specs.declared.Corrected.{Corrected}
-use Rattle.block.specs.Bytes.{rowOf}
-use Rattle.block.specs.Words.{FiveWords, rowOfWords, zeroWords}
-use Rattle.block.specs.Corrector.{Near, Corrects}
+use Rattle.words.specs.Bytes.{rowOf}
+use Rattle.words.specs.Words.{FiveWords, rowOfWords, zeroWords}
+use Rattle.words.specs.Near.{Near}
+use Rattle.block.specs.Corrector.{Corrects}
 use Rattle.block.specs.Blocks.{CheckRight, Reads}
-use Rattle.block.proofs.Determined.{found-once}
-use Rattle.block.proofs.Words.{zero-row, zero-five, top-small}
+use Rattle.block.proofs.Determined.{block-once}
+use Rattle.words.proofs.Words.{zero-row, zero-five, top-small}
 
 -- every outcome of the two
 module _ (received before after : List ℕ) (r : Corrected) where
@@ -82,5 +83,5 @@ module _ (received room word place information : List ℕ) (r s : Corrected) (l 
   passed-on (inr (inl u)) (inr (inr (inr v))) = absurd (u .none (v .word) (v .found .code) (v .found .near))
   passed-on (inr (inr u)) (inl v) = absurd (v .wrong (record { input = u .sized .input; output = m }))
   passed-on (inr (inr u)) (inr (inl v)) = absurd (v .none (u .word) (u .found .code) (u .found .near))
-  passed-on (inr (inr u)) (inr (inr (inl v))) = found-once received (u .sized .input) (u .found) (v .found) .1
-  passed-on (inr (inr u)) (inr (inr (inr v))) = found-once received (u .sized .input) (u .found) (v .found) .1
+  passed-on (inr (inr u)) (inr (inr (inl v))) = block-once received (u .sized .input) (u .found) (v .found) .1
+  passed-on (inr (inr u)) (inr (inr (inr v))) = block-once received (u .sized .input) (u .found) (v .found) .1

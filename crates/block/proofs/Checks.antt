@@ -4,9 +4,9 @@ use mathlib.Core.Bool.{Bool, false}
 use mathlib.Core.List.{List, _++_, append-assoc}
 use Prim.Native.Nat.{ℕ, _+_, _-_, _≤_}
 use native.Mathlib.Omega.{arith}
-use lib.ListN.{length, take, drop, replicate, length-drop}
-use lib.Seq.{length-take-le, drop-append-le, take-at}
-use Rattle.gf2.specs.Poly.{divided, remainder, checkOf, systematic}
+use lib.ListN.{length, take, drop, replicate}
+use lib.Seq.{length-take-le, drop-append-le}
+use Rattle.gf2.specs.Poly.{divided, checkOf, systematic}
 use Rattle.gf2.proofs.Remainders.{length-divided}
 use Rattle.block.specs.Blocks.{checkDivisor}
 
@@ -23,12 +23,6 @@ module _ (row low last : List Bool) (n k : ℕ) (fits : n ≤ length row) (steps
 
   pub last-length : length last ≡ n
   last-length = ap length e ∙ length-divided low (length (take n row) - length low) (take n row) ∙ length-take-le n row fits
-
-  -- behind the k steps stands the remainder
-  pub last-rest : (rest : List Bool) → take (length low) (drop k (last ++ rest)) ≡ remainder low k (take n row)
-  last-rest rest =
-      ap (take (length low)) (drop-append-le k last rest (omega (arith, last-length)))
-      ∙ take-at (drop k last) rest (length low) (length-drop k last ∙ omega (arith, last-length)) ∙ ap (drop k) last-is
 
 -- the information, its check, and what was behind
 pub appended : (row low last : List Bool) (at : ℕ) → at + length low ≤ length row

@@ -10,15 +10,13 @@ use lib.Pow.{areBytes}
 use Rattle.answers.specs.Numbers.{paper}
 use Rattle.answers.specs.declared.Answer.{Answer}
 use Rattle.answers.proofs.Determined.{paper-once}
-use Rattle.code.specs.Code.{difference, ones}
-use Rattle.code.proofs.Majority.{only-word}
 use Rattle.block.specs.declared.Corrected.{Corrected}
-use Rattle.block.specs.Bytes.{rowOf}
-use Rattle.block.specs.Words.{rowOfWords}
-use Rattle.block.specs.Corrector.{Near, WrongLength, NoCodeWord, Corrects}
+use Rattle.words.specs.Bytes.{rowOf}
+use Rattle.words.specs.Near.{Near}
+use Rattle.block.specs.Corrector.{WrongLength, NoCodeWord, Corrects}
 use Rattle.block.specs.Blocks.{CheckRight, Reads, Writes}
-use Rattle.block.proofs.Bytes.{row-once, length-bitsOf}
-use Rattle.block.proofs.Words.{words-once}
+use Rattle.words.proofs.Bytes.{row-once, length-bitsOf}
+use Rattle.words.proofs.Determined.{found-once}
 
 -- what is returned is an answer, a count and a row
 returned : (r s : Corrected) → paper (r .answer) ≡ paper (s .answer) → (r .count ≡ s .count) × (r .changed ≡ s .changed) → r ≡ s
@@ -32,14 +30,10 @@ module _ (room : ℕ) (received before : List ℕ) (r s : Corrected) (x y : List
   same-none : NoCodeWord room received before x r → NoCodeWord room received before y s → (r ≡ s) × (x ≡ y)
   same-none u v = (returned r s (u .answers ∙ sym (v .answers)) (u .counts ∙ sym (v .counts), u .places ∙ sym (v .places)), u .same ∙ sym (v .same))
 
--- a code word within eight places is the only one, and so are the places and their number
-pub found-once : (received : List ℕ) {u v : List Bool} {m n : ℕ} {xs ys : List ℕ} → length received ≡ 34 → Near (rowOf received) u m xs → Near (rowOf received) v n ys
+-- what was found for a block
+pub block-once : (received : List ℕ) {u v : List Bool} {m n : ℕ} {xs ys : List ℕ} → length received ≡ 34 → Near (rowOf received) u m xs → Near (rowOf received) v n ys
     → (u ≡ v) × ((m ≡ n) × (xs ≡ ys))
-found-once received {u} {v} {m} {n} {xs} {ys} l p q =
-    let word : u ≡ v = only-word (rowOf received) u v (omega (arith, length-bitsOf 8 received)) (p .code) (q .code) (p .near) (q .near) in
-    let row : difference (rowOf received) u ≡ difference (rowOf received) v = ap (difference (rowOf received)) word in
-    let changed : xs ≡ ys = words-once xs ys (p .words) (q .words) (p .places ∙ row ∙ sym (q .places)) in
-    (word, (p .counts ∙ ap (λ zs. ones (rowOfWords zs)) changed ∙ sym (q .counts), changed))
+block-once received l = found-once (length-bitsOf 8 received ∙ omega arith)
 
 module _ (received before : List ℕ) (r s : Corrected) (x y : List ℕ) (bx : areBytes x ≡ true) (by : areBytes y ≡ true) where
   -- `correct`
@@ -53,7 +47,7 @@ module _ (received before : List ℕ) (r s : Corrected) (x y : List ℕ) (bx : a
   correct-once (inr (inr u)) (inl v) = absurd (v .wrong (u .sized))
   correct-once (inr (inr u)) (inr (inl v)) = absurd (v .none (u .word) (u .found .code) (u .found .near))
   correct-once (inr (inr u)) (inr (inr v)) =
-      let once = found-once received (u .sized .input) (u .found) (v .found) in
+      let once = block-once received (u .sized .input) (u .found) (v .found) in
       (returned r s (u .answers ∙ sym (v .answers)) (once .1), row-once x y bx by (u .long ∙ sym (v .long)) (u .written ∙ once .0 ∙ sym (v .written)))
 
   -- `read_block`
@@ -69,15 +63,15 @@ module _ (received before : List ℕ) (r s : Corrected) (x y : List ℕ) (bx : a
   read-block-once (inr (inr (inl u))) (inl v) = absurd (v .wrong (u .sized))
   read-block-once (inr (inr (inl u))) (inr (inl v)) = absurd (v .none (u .word) (u .found .code) (u .found .near))
   read-block-once (inr (inr (inl u))) (inr (inr (inl v))) =
-      (returned r s (u .answers ∙ sym (v .answers)) (found-once received (u .sized .input) (u .found) (v .found) .1), u .same ∙ sym (v .same))
+      (returned r s (u .answers ∙ sym (v .answers)) (block-once received (u .sized .input) (u .found) (v .found) .1), u .same ∙ sym (v .same))
   read-block-once (inr (inr (inl u))) (inr (inr (inr v))) =
-      absurd (u .wrong (subst CheckRight (sym (found-once received (u .sized .input) (u .found) (v .found) .0)) (v .right)))
+      absurd (u .wrong (subst CheckRight (sym (block-once received (u .sized .input) (u .found) (v .found) .0)) (v .right)))
   read-block-once (inr (inr (inr u))) (inl v) = absurd (v .wrong (u .sized))
   read-block-once (inr (inr (inr u))) (inr (inl v)) = absurd (v .none (u .word) (u .found .code) (u .found .near))
   read-block-once (inr (inr (inr u))) (inr (inr (inl v))) =
-      absurd (v .wrong (subst CheckRight (found-once received (u .sized .input) (u .found) (v .found) .0) (u .right)))
+      absurd (v .wrong (subst CheckRight (block-once received (u .sized .input) (u .found) (v .found) .0) (u .right)))
   read-block-once (inr (inr (inr u))) (inr (inr (inr v))) =
-      let once = found-once received (u .sized .input) (u .found) (v .found) in
+      let once = block-once received (u .sized .input) (u .found) (v .found) in
       (returned r s (u .answers ∙ sym (v .answers)) (once .1), row-once x y bx by (u .long ∙ sym (v .long)) (u .given ∙ ap (take 176) (once .0) ∙ sym (v .given)))
 
 -- `write_block`

@@ -1,9 +1,9 @@
-pub mod Bytes
-pub mod Words
 pub mod Checks
 pub mod Turns
 pub mod Outcomes
 pub mod Blocks
+pub mod Linear
+pub mod Folds
 pub mod RoundTrip
 pub mod Determined
 pub mod Changed

@@ -16,12 +16,13 @@ use Rattle.code.specs.Code.{generator, CodeWord, difference, ones, distance, mo
 use Rattle.code.proofs.Computed.{generator-length}
 use Rattle.code.proofs.Majority.{code-length, only-word}
 use Rattle.block.specs.declared.Corrected.{Corrected}
-use Rattle.block.specs.Bytes.{rowOf}
-use Rattle.block.specs.Words.{rowOfWords, zeroWords}
-use Rattle.block.specs.Corrector.{Near, Word}
+use Rattle.words.specs.Bytes.{rowOf}
+use Rattle.words.specs.Words.{rowOfWords, zeroWords}
+use Rattle.words.specs.Near.{Near}
+use Rattle.block.specs.Corrector.{Word}
 use Rattle.block.specs.Blocks.{checkDivisor, CheckRight, blockRow, Information, Reads, Block}
-use Rattle.block.proofs.Bytes.{length-bitsOf, row-once}
-use Rattle.block.proofs.Words.{words-once, zero-five, zero-row}
+use Rattle.words.proofs.Bytes.{length-bitsOf, row-once}
+use Rattle.words.proofs.Words.{words-once, zero-five, zero-row}
 use Rattle.block.proofs.Checks.{check-length}
 use Rattle.block.proofs.Blocks.{length-systematic, ending-tested}
 

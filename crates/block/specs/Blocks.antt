@@ -10,8 +10,9 @@ use Rattle.answers.specs.Numbers.{accepted, refused, paper}
 use Rattle.gf2.specs.Poly.{lower, checkOf, systematic}
 use Rattle.code.specs.Code.{generator}
 use Rattle.block.specs.declared.Corrected.{Corrected}
-use Rattle.block.specs.Bytes.{rowOf}
-use Rattle.block.specs.Corrector.{Near, Sized, WrongLength, NoCodeWord}
+use Rattle.words.specs.Bytes.{rowOf}
+use Rattle.words.specs.Near.{Near}
+use Rattle.block.specs.Corrector.{Sized, WrongLength, NoCodeWord}
 
 -- x^14 + x^11 + x^2 + 1; the leading power has no effect here either
 unfoldable pub checkDivisor : List Bool

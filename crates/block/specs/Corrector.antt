@@ -4,26 +4,13 @@ use mathlib.Core.Path.{_≡_}
 use mathlib.Core.Bool.{Bool}
 use mathlib.Core.List.{List}
 use mathlib.Core.Logic.{_⊎_}
-use Prim.Native.Nat.{ℕ, _≤_}
+use Prim.Native.Nat.{ℕ}
 use lib.ListN.{length}
 use Rattle.answers.specs.Numbers.{accepted, refused, paper}
-use Rattle.code.specs.Code.{CodeWord, difference, ones, distance, mostCorrected}
+use Rattle.words.specs.Bytes.{rowOf}
+use Rattle.words.specs.Words.{zeroWords}
+use Rattle.words.specs.Near.{Near, NoneNear}
 use Rattle.block.specs.declared.Corrected.{Corrected}
-use Rattle.block.specs.Bytes.{rowOf}
-use Rattle.block.specs.Words.{FiveWords, rowOfWords, zeroWords}
-
--- a code word differs from a row in at most eight places; the row of changed places is exactly the difference between the two, and the
--- count is the number of ones in it
-pub record Near (row word : List Bool) (count : ℕ) (changed : List ℕ) : Type 0 where
-  pub code : CodeWord word
-  pub near : distance row word ≤ mostCorrected
-  pub words : FiveWords changed
-  pub places : rowOfWords changed ≡ difference row word
-  pub counts : count ≡ ones (rowOfWords changed)
-
--- no code word differs in at most eight places
-abbrev pub NoneNear : List Bool → Type 0
-NoneNear row = (word : List Bool) → CodeWord word → distance row word ≤ mostCorrected → ⊥
 
 -- It wants 34 bytes in and 34 out, the reader 34 and 22, the block writer 22 and 34, else 1.
 pub record Sized (bytes room : ℕ) (given before : List ℕ) : Type 0 where

@@ -1,5 +1,3 @@
-pub mod Bytes
-pub mod Words
 pub mod Corrector
 pub mod Blocks
-pub mod Nearest
+pub mod Folds

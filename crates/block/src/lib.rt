@@ -1,17 +1,18 @@
 // Document 01, "The block": 272 bits in sending order, as 34 bytes.
+ghost use mathlib.Core.Path.{_≡_};
+ghost use Rattle.answers.specs.Numbers.{refused, numberOf, paper};
+ghost use Rattle.words.specs.Words.{zeroWords};
 ghost use Rattle.block.specs.Corrector.{Corrects};
 ghost use Rattle.block.specs.Blocks.{Reads, Writes};
 
 mod check;
-mod nearest;
 mod rows;
 
 use answers::Answer;
 pub use answers::INFORMATION_BYTES;
 use answers::Refusal;
-
-// A block without its BIC, in bytes.
-pub const BLOCK_BYTES: usize = 34;
+pub use words::BLOCK_BYTES;
+pub use words::BLOCK_WORDS;
 
 // Its information, with the check bits behind, with the parity behind both, in bits.
 const INFORMATION_BITS: usize = 176;
@@ -19,12 +20,6 @@ const INFORMATION_BITS: usize = 176;
 const CHECKED_BITS: usize = 190;
 
 const BLOCK_BITS: usize = 272;
-
-// The 272 places of a block in words: position p is the bit of weight 2^(p mod 64) in word p / 64, and the top 48 bits of
-// the last are zero.
-pub const BLOCK_WORDS: usize = 5;
-
-const WORD_BITS: usize = 64;
 
 // What the corrector and the block reader answer: `changed` is the row of the places in which the code word differs from
 // what was received, and the count is the number of its ones.
@@ -40,17 +35,19 @@ pub struct Corrected {
 pub fn correct(received: &[u8], out: &mut [u8]) -> Corrected
     ensures { λ r. ⌜ Corrects (now (received .entry)) (now (out .entry)) (now (out .exit)) r ⌝ }
 {
-    let found = nearest::find(received, out, BLOCK_BYTES);
-    let answer = found.answer;
-    let count = found.count;
-    let changed = found.changed;
-    if found.near {
-        let word = found.word;
-        rows::fill_bytes(&word, out);
+    if !((received.len() == BLOCK_BYTES) & (out.len() == BLOCK_BYTES)) {
+        return missed(Refusal::WrongLength);
     }
+    let found = words::search(words::of_bytes(received));
+    if !found.near {
+        return missed(Refusal::NoCodeWord);
+    }
+    let word = found.word;
+    let changed = found.changed;
+    words::fill_bytes(word, out);
     Corrected {
-        answer,
-        count,
+        answer: Answer::Accepted,
+        count: found.count,
         changed,
     }
 }
@@ -61,24 +58,26 @@ pub fn correct(received: &[u8], out: &mut [u8]) -> Corrected
 pub fn read_block(received: &[u8], out: &mut [u8]) -> Corrected
     ensures { λ r. ⌜ Reads (now (received .entry)) (now (out .entry)) (now (out .exit)) r ⌝ }
 {
-    let found = nearest::find(received, out, INFORMATION_BYTES);
-    let answer = found.answer;
-    let count = found.count;
-    let changed = found.changed;
-    if found.near {
-        let word = found.word;
-        if !check::holds(&word) {
-            return Corrected {
-                answer: Answer::Refused(Refusal::CheckBits),
-                count,
-                changed,
-            };
-        }
-        rows::fill_bytes(&word, out);
+    if !((received.len() == BLOCK_BYTES) & (out.len() == INFORMATION_BYTES)) {
+        return missed(Refusal::WrongLength);
     }
+    let found = words::search(words::of_bytes(received));
+    if !found.near {
+        return missed(Refusal::NoCodeWord);
+    }
+    let word = found.word;
+    let changed = found.changed;
+    if !check::holds(&word) {
+        return Corrected {
+            answer: Answer::Refused(Refusal::CheckBits),
+            count: found.count,
+            changed,
+        };
+    }
+    words::fill_bytes(word, out);
     Corrected {
-        answer,
-        count,
+        answer: Answer::Accepted,
+        count: found.count,
         changed,
     }
 }
@@ -99,4 +98,15 @@ pub fn write_block(information: &[u8], out: &mut [u8]) -> Answer
     let word = check::append(checked, CHECKED_BITS, &generator);
     rows::fill_bytes(&word, out);
     Answer::Accepted
+}
+
+// Where no code word was found no place and no number is told.
+fn missed(refusal: Refusal) -> Corrected
+    ensures { λ r. ⌜ (paper (r .answer) ≡ refused (numberOf refusal)) × (r .count ≡ 0) × (r .changed ≡ zeroWords) ⌝ }
+{
+    Corrected {
+        answer: Answer::Refused(refusal),
+        count: 0,
+        changed: [0; BLOCK_WORDS],
+    }
 }

@@ -1,5 +1,5 @@
--- What antt computes over the tables: the difference property of the check positions, and that the generator's parity
--- sums are even. Assumes nothing.
+-- What antt computes over the tables: the difference property of the check positions, that the generator's parity sums are
+-- even, and eleven sums that have one place alone. Assumes nothing.
 use mathlib.Core.Path.{_≡_, refl}
 use mathlib.Core.Bool.{Bool, true, false, _&&_, not}
 use mathlib.Core.List.{List, [], _∷_}
@@ -8,9 +8,11 @@ use lib.Dec.{T, eqb, eqb→eq, ltb, ltb→lt}
 use lib.Ieee.Bits.{is-false}
 use lib.Ieee.Fits.{and-l, and-r}
 use lib.ListN.{length}
+use Rattle.gf2.specs.Poly.{_⊕_}
+use Rattle.gf2.proofs.Bits.{⊕-zero}
 use Rattle.gf2.proofs.Tested.{tested}
 use Rattle.code.specs.Code.{generator}
-use Rattle.code.specs.Vote.{residues, bitAt, parityOver, sumOver, differences, occurs, seventeenOnce, checkPositions}
+use Rattle.code.specs.Vote.{residues, parityOver, sumOver, differences, occurs, seventeenOnce, checkPositions, paritySum}
 use Rattle.code.proofs.Sums.{Below}
 
 abbrev differenceSet : List ℕ → ℕ → Bool
@@ -24,13 +26,23 @@ pub pair-once : (v : ℕ) → v < 273 → occurs v (differences checkPositions c
 unfolding checkPositions
 pair-once v h = eqb→eq _ _ (tested 273 (differenceSet checkPositions) tt v h)
 
-abbrev evenAt : List Bool → List ℕ → ℕ → Bool
-evenAt row cs t = not (parityOver (λ s. bitAt row ((t + s) % 273)) cs)
-
 -- THE GENERATOR'S SUMS ARE EVEN at each of the 273 shifts
-pub generator-even : (t : ℕ) → t < 273 → parityOver (λ s. bitAt (true ∷ generator) ((t + s) % 273)) checkPositions ≡ false
-unfolding checkPositions generator
-generator-even t h = is-false _ (tested 273 (evenAt (true ∷ generator) checkPositions) tt t h)
+pub generator-even : (t : ℕ) → t < 273 → paritySum (true ∷ generator) t ≡ false
+unfolding checkPositions generator paritySum
+generator-even t h = is-false _ (tested 273 (λ u. not (paritySum (true ∷ generator) u)) tt t h)
+
+-- the sum at shift t has the place v
+abbrev pub holds : ℕ → ℕ → Bool
+holds t v = parityOver (λ s. eqb v ((t + s) % 273)) checkPositions
+
+-- eleven of the 82 shifts from 192 round to 0, found by elimination: no other choice of those 82 does what `alone` says
+unfoldable pub singling : List ℕ
+singling = 0 ∷ 206 ∷ 224 ∷ 230 ∷ 242 ∷ 252 ∷ 254 ∷ 256 ∷ 260 ∷ 266 ∷ 272 ∷ []
+
+-- OF THE FIRST 82 PLACES THE ELEVEN SUMS, ADDED, HAVE PLACE 0 ALONE
+pub alone : (v : ℕ) → v < 82 → eqb v 0 ≡ parityOver (λ k. holds k v) singling
+unfolding checkPositions singling
+alone v h = ⊕-zero _ _ (is-false _ (tested 82 (λ w. not (eqb w 0 ⊕ parityOver (λ k. holds k w) singling)) tt v h))
 
 pub generator-length : length generator ≡ 82
 unfolding generator

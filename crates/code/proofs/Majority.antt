@@ -145,7 +145,7 @@ pub length-voted : (row : List Bool) → length (voted row) ≡ length row
 unfolding voted
 length-voted row = length-rowFrom (λ p. bitAt row p ⊕ leb majority (oddSums (paritySums row) p)) 0 (length row)
 
-bit-voted : (row : List Bool) (i : ℕ) → i < length row → bitAt (voted row) i ≡ bitAt row i ⊕ leb majority (oddSums (paritySums row) i)
+pub bit-voted : (row : List Bool) (i : ℕ) → i < length row → bitAt (voted row) i ≡ bitAt row i ⊕ leb majority (oddSums (paritySums row) i)
 unfolding voted
 bit-voted row i h = getD-rowFrom (λ p. bitAt row p ⊕ leb majority (oddSums (paritySums row) p)) (length row) i h
 

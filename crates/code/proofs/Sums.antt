@@ -149,9 +149,9 @@ pub parity-sum : (f : ℕ → Bool) (xs : List ℕ) → sumOver (λ v. bit (f v)
 parity-sum f [] = refl
 parity-sum f (x ∷ xs) = odd-more (f x) (parityOver f xs) (sumOver (λ v. bit (f v)) xs) (parity-sum f xs)
 
-pub parityOver-cong : (f g : ℕ → Bool) (xs : List ℕ) → ((v : ℕ) → f v ≡ g v) → parityOver f xs ≡ parityOver g xs
+pub parityOver-cong : (f g : ℕ → Bool) (xs : List ℕ) → ((v : ℕ) → In v xs → f v ≡ g v) → parityOver f xs ≡ parityOver g xs
 parityOver-cong f g [] h = refl
-parityOver-cong f g (x ∷ xs) h = λ i. h x i ⊕ parityOver-cong f g xs h i
+parityOver-cong f g (x ∷ xs) h = λ i. h x (inl refl) i ⊕ parityOver-cong f g xs (λ v m. h v (inr m)) i
 
 pub parityOver-⊕ : (f g : ℕ → Bool) (xs : List ℕ) → parityOver (λ v. f v ⊕ g v) xs ≡ parityOver f xs ⊕ parityOver g xs
 parityOver-⊕ f g [] = refl

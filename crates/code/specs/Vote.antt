@@ -1,5 +1,5 @@
 -- Document 01, "The block": the corrector votes, 17 parity sums meet in each position. Of this file a public promise cites
--- `checkPositions` alone, the table that `block` votes with; the rest says how the word is found. Assumes nothing.
+-- `checkPositions` alone, the table that `words` votes with; the rest says how the word is found. Assumes nothing.
 use mathlib.Core.Bool.{Bool, false}
 use mathlib.Core.List.{List, [], _∷_, _++_, map}
 use Prim.Native.Nat.{ℕ, zero, suc, _+_, _-_, _*_, _%_}

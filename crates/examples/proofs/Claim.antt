@@ -14,11 +14,12 @@ use Rattle.answers.specs.Numbers.{accepted, refused, paper}
 use Rattle.gf2.proofs.Remainders.{add-zeros}
 use Rattle.code.specs.Code.{generator, CodeWord, difference, ones, distance}
 use Rattle.code.proofs.Majority.{only-word, nine-away}
-use Rattle.block.specs.Bytes.{bitOf, bitsOf, rowOf}
-use Rattle.block.specs.Words.{rowOfWords}
-use Rattle.block.specs.Corrector.{Near, Corrects}
+use Rattle.words.specs.Bytes.{bitOf, bitsOf, rowOf}
+use Rattle.words.specs.Words.{rowOfWords}
+use Rattle.words.specs.Near.{Near}
+use Rattle.block.specs.Corrector.{Corrects}
 use Rattle.block.specs.Blocks.{checkDivisor, CheckRight, Reads}
-use Rattle.block.proofs.Bytes.{row-once, length-bitsOf}
+use Rattle.words.proofs.Bytes.{row-once, length-bitsOf}
 use Rattle.header.specs.Header.{bits, check}
 use Rattle.channel.specs.Layer4.{sizeOf, blocksFor}
 use Rattle.channel.specs.State.{fresh, keepsRule, asWaiting, stepOf}

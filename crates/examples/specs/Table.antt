@@ -9,8 +9,8 @@ use lib.Pow.{areBytes}
 use Rattle.answers.specs.Numbers.{accepted, refused, paper}
 use Rattle.code.specs.Code.{generator, ones, distance}
 use Rattle.block.specs.declared.Corrected.{Corrected}
-use Rattle.block.specs.Bytes.{rowOf}
-use Rattle.block.specs.Words.{rowOfWords, zeroWords}
+use Rattle.words.specs.Bytes.{rowOf}
+use Rattle.words.specs.Words.{rowOfWords, zeroWords}
 use Rattle.block.specs.Corrector.{Corrects}
 use Rattle.block.specs.Blocks.{Reads}
 use Rattle.channel.specs.declared.Channel.{Channel}

@@ -5,7 +5,7 @@ use mathlib.Core.Path.{_≡_, sym, _∙_}
 use mathlib.Core.Bool.{Bool}
 use mathlib.Core.List.{List}
 use lib.ListN.{length}
-use Rattle.gf2.specs.Poly.{bit, _⊕_, divided, allZero, lower}
+use Rattle.gf2.specs.Poly.{bit, _⊕_, divided, lower}
 
 -- `number`
 pub number-once : (b : Bool) (r s : ℕ) → (r ≡ bit b) × (r < 2) → (s ≡ bit b) × (s < 2) → r ≡ s
@@ -18,10 +18,6 @@ sum-once a b r s p q = p ∙ sym q
 -- `divide`
 pub divide-once : (row low x y : List Bool) → x ≡ divided low (length row - length low) row → y ≡ divided low (length row - length low) row → x ≡ y
 divide-once row low x y p q = p ∙ sym q
-
--- `is_zero`
-pub is-zero-once : (row : List Bool) (r s : Bool) → r ≡ allZero row → s ≡ allZero row → r ≡ s
-is-zero-once row r s p q = p ∙ sym q
 
 -- `fill_lower`
 pub fill-lower-once : (powers : List ℕ) (row x y : List Bool) → x ≡ lower (length row) powers → y ≡ lower (length row) powers → x ≡ y

@@ -2,14 +2,14 @@
 use mathlib.Core.Path.{_≡_, refl, sym, ap, subst, _∙_}
 use mathlib.Core.Bool.{Bool, false}
 use mathlib.Core.List.{List, [], _∷_, _++_, append-nil, append-assoc}
-use Prim.Native.Nat.{ℕ, zero, suc, _+_, _-_, _<_, _≤_}
+use Prim.Native.Nat.{ℕ, zero, suc, _+_, _-_, _<_}
 use native.Mathlib.Nat.{zero-add, add-zero}
 use native.Mathlib.Decide.{ℕ-discrete}
 use native.Mathlib.Numerals.{add-one}
 use native.Mathlib.Omega.{arith}
 use borrow.Rule.Slice.PartMut.{putMid}
 use lib.ListN.{length, getD, set, take, drop, length-drop, drop-of-length-le}
-use lib.Seq.{getD-set-same, getD-set-other, drop-cons, take-suc, length-take-le, set-at, ext-getD}
+use lib.Seq.{getD-set-same, getD-set-other, drop-cons, take-suc, length-take-le, set-at}
 use Rattle.gf2.specs.Poly.{rowFrom}
 
 -- a list from a place on: what stands there, and what is behind it
@@ -58,8 +58,3 @@ rowFrom-later f p (suc n) (suc i) h = rowFrom-later f (suc p) n i (omega arith) 
 
 pub getD-rowFrom : (f : ℕ → Bool) (n i : ℕ) → i < n → getD (rowFrom f 0 n) i false ≡ f i
 getD-rowFrom f n i h = rowFrom-later f 0 n i h ∙ ap f (zero-add i)
-
--- a row that is filled to its end
-pub row-filled : (f : ℕ → Bool) (row : List Bool) (n p : ℕ) → length row ≡ n → n ≤ p → Filled false f row p → row ≡ rowFrom f 0 n
-row-filled f row n p l h filled =
-    ext-getD false row (rowFrom f 0 n) (l ∙ sym (length-rowFrom f 0 n)) (λ i g. filled i (omega arith) ∙ sym (getD-rowFrom f n i (omega arith)))

@@ -2,12 +2,11 @@
 use mathlib.Core.Path.{_≡_, refl, sym, ap, _∙_, subst}
 use mathlib.Core.Bool.{Bool, true, false, false≢true}
 use mathlib.Core.List.{List, [], _∷_, _++_}
-use mathlib.Core.Logic.{_↔_}
 use Prim.Native.Nat.{ℕ, zero, suc, _+_}
 use native.Mathlib.Nat.{zero-add, suc-add}
 use native.Mathlib.Omega.{arith}
 use lib.ListN.{length, replicate, length-replicate, length-append, length-drop}
-use Rattle.gf2.specs.Poly.{_⊕_, scale, add, times, divided, remainder, Multiple, checkOf, systematic, allZero}
+use Rattle.gf2.specs.Poly.{_⊕_, scale, add, times, divided, remainder, Multiple, checkOf, systematic}
 use Rattle.gf2.proofs.Bits.{⊕-self, ⊕-false, ⊕-twice, ⊕-swap, ⊕-zero, ⊕-&&}
 
 -- lengths
@@ -190,7 +189,12 @@ only-ending low info ending h m =
     add-none ending (checkOf low info) (length low) (h ∙ sym (length-check low info))
     (sym (remainder-ending low info ending h) ∙ multiple-remainder low (length info) (info ++ ending) m)
 
--- the test of a row for zero
+-- every place of a row is zero, as a test that is computed
+abbrev pub allZero : List Bool → Bool
+allZero [] = true
+allZero (true ∷ row) = false
+allZero (false ∷ row) = allZero row
+
 pub zeros-allZero : (n : ℕ) → allZero (replicate n false) ≡ true
 zeros-allZero zero = refl
 zeros-allZero (suc n) = zeros-allZero n
@@ -199,12 +203,3 @@ pub allZero-zeros : (row : List Bool) → allZero row ≡ true → row ≡ repli
 allZero-zeros [] t = refl
 allZero-zeros (true ∷ row) t = absurd (false≢true t)
 allZero-zeros (false ∷ row) t = ap {B = List Bool} (λ xs. false ∷ xs) (allZero-zeros row t)
-
--- THE TEST OF A REMAINDER TELLS THE MULTIPLES
-pub multiple-tested : (low : List Bool) (k : ℕ) (row : List Bool) → length row ≡ k + length low
-    → (allZero (remainder low k row) ≡ true) ↔ Multiple low k row
-multiple-tested low k row h = (
-  λ t. remainder-multiple low k row h
-      (allZero-zeros (remainder low k row) t ∙ ap (λ (n : ℕ). replicate n false) (length-remainder low k row (length low) h)),
-  λ m. ap allZero (multiple-remainder low k row m) ∙ zeros-allZero (length low),
-)

@@ -8,7 +8,7 @@ use native.Mathlib.Omega.{arith}
 use lib.Dec.{eqb}
 use lib.ListN.{length, getD, set, take, drop, length-append, length-drop, drop-of-length-le, take-append-drop}
 use lib.Seq.{take-suc, take-suc-set, drop-set-lt, take-at, drop-at, length-take-le}
-use Rattle.gf2.specs.Poly.{_⊕_, scale, add, divided, allZero, elem, lower}
+use Rattle.gf2.specs.Poly.{_⊕_, scale, add, divided, elem, lower}
 use Rattle.gf2.proofs.Lists.{drop-one}
 use Rattle.gf2.proofs.Remainders.{length-add, scale-true, add-scale-false}
 
@@ -79,9 +79,6 @@ pub divided-end : (low row whole : List Bool) (i k : ℕ) → k ≤ i → take i
 divided-end low row whole i k h inv =
     let done : k - i ≡ 0 = omega arith in
     sym (take-append-drop i row) ∙ ap (λ (n : ℕ). take i row ++ divided low n (drop i row)) (sym done) ∙ inv
-
-pub zero-place : (row : List Bool) (i : ℕ) (b : Bool) → i < length row → getD row i false ≡ b → allZero (drop i row) ≡ allZero (b ∷ drop (i + 1) row)
-zero-place row i b h e = ap allZero (drop-one row i false h) ∙ ap (λ z. allZero (z ∷ drop (i + 1) row)) e
 
 -- a power more is compared
 pub elem-place : (n : ℕ) (powers : List ℕ) (i : ℕ) (b : Bool) → i < length powers → eqb n (getD powers i 0) ≡ b

@@ -63,12 +63,6 @@ checkOf low info = remainder low (length info) (info ++ replicate (length low) f
 abbrev pub systematic : List Bool → List Bool → List Bool
 systematic low info = info ++ checkOf low info
 
--- every place of a row is zero
-abbrev pub allZero : List Bool → Bool
-allZero [] = true
-allZero (true ∷ row) = false
-allZero (false ∷ row) = allZero row
-
 -- a number is among others
 abbrev pub elem : ℕ → List ℕ → Bool
 elem n [] = false

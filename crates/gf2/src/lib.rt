@@ -3,7 +3,7 @@
 ghost use mathlib.Core.Path.{_≡_};
 ghost use Prim.Native.Nat.{_-_, _<_, _≤_};
 ghost use lib.ListN.{length};
-ghost use Rattle.gf2.specs.Poly.{bit, _⊕_, add, divided, allZero, elem, lower};
+ghost use Rattle.gf2.specs.Poly.{bit, _⊕_, add, divided, elem, lower};
 
 // A bit as a number.
 pub fn number(b: bool) -> u64
@@ -49,20 +49,6 @@ pub fn divide(row: &mut [bool], low: &[bool])
         }
         i = behind;
     }
-}
-
-// Whether every place of a row is zero.
-pub fn is_zero(row: &[bool]) -> bool
-    ensures { λ r. ⌜ r ≡ allZero (now (row .entry)) ⌝ }
-{
-    let mut i: usize = 0;
-    while i < row.len() {
-        if row[i] {
-            return false;
-        }
-        i += 1;
-    }
-    true
 }
 
 // Fills a row with the coefficients of the polynomial with these powers, below the power that the row is long.

@@ -12,10 +12,10 @@ use lib.Dec.{eqb}
 use lib.ListN.{length, getD, drop, replicate, List·getD-map}
 use lib.Ieee.Bits.{is-true}
 use lib.Pow.{pow-pos, mod-pow-add}
-use Rattle.gf2.specs.Poly.{bit, _⊕_, scale, add, checkOf, allZero}
+use Rattle.gf2.specs.Poly.{bit, _⊕_, scale, add, checkOf}
 use Rattle.gf2.proofs.Bits.{bit-lt}
 use Rattle.gf2.proofs.Lists.{drop-one}
-use Rattle.gf2.proofs.Remainders.{check-bit, length-check, add-none, allZero-zeros}
+use Rattle.gf2.proofs.Remainders.{check-bit, length-check, add-none, allZero, allZero-zeros}
 use Rattle.gf2.proofs.Tested.{tested}
 use Rattle.header.specs.Header.{bits, six}
 use Rattle.header.proofs.Bits.{bit-of, length-bits, bits-more, onto}

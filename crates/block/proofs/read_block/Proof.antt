@@ -1,75 +1,111 @@
 -- `block::read_block`: where a code word was found, its check bits, then its information bytes. Assumes nothing.
-use Rattle.block.proofs.Blocks.{check-tested}
-use Rattle.code.proofs.Majority.{code-length}
-use Prim.Native.Nat.{ℕ, _*_}
-use lib.ListN.{take}
 use native.Mathlib.Omega.{arith}
-use mathlib.Core.Bool.{false≢true}
-use mathlib.Core.Logic.{inl, inr, ⊎-elim}
-use mathlib.Core.Path.{refl, sym, ap, _∙_}
-use borrow.Author.Needs.{needs}
 use borrow.Author.Tests.{not-true, not-false}
+use mathlib.Core.Bool.{false≢true}
+use mathlib.Core.Logic.{inl, inr}
+use mathlib.Core.Path.{refl, sym, ap, _∙_}
+use Prim.Native.Nat.{ℕ, _*_, _≤_}
+use lib.ListN.{length, take}
+use Rattle.words.specs.Bytes.{rowOf}
+use Rattle.words.specs.Words.{rowOfWords}
+use Rattle.words.specs.Near.{Searched}
+use Rattle.words.proofs.Outcomes.{of-row}
+use Rattle.block.specs.Corrector.{Sized}
+use Rattle.block.proofs.Outcomes.{sized-so, not-sized}
+use borrow.Author.Needs.{needs}
 use Rattle.block.proofs.read_block.Statement.{statement}
 use Rattle.block.proofs.read_block.Tie as tie
 
-holds-requires : tie.Need-holds-requires
-holds-requires c κs =
-    let e = c .before .before in
-    code-length _ (e .before .before .find .ensures .met (e .if1 .taken) .2 .code)
+sized : (c : tie.After-search) → Sized 34 22 (c .before .before .before .before .before .args .received .now) (c .before .before .before .before .before .args .out .now)
+sized c = sized-so 34 22 _ _ (c .before .before .if1 .left)
+
+searched : (c : tie.After-search) → Searched (rowOf (c .before .before .before .before .before .args .received .now)) (c .search .result)
+searched c = of-row (c .before .of-bytes .ensures .block (sized c .input)) (c .search .ensures)
+
+missed-requires : tie.Need-missed-requires
+missed-requires c κs = search needs
 
 returns : tie.Need-returns
 returns c =
-    let h = c .before in
-    let e = h .before .before .before in
-    let f = e .before .before .find in
-    let m = f .ensures .met (e .if1 .taken) in
+    let m = c .missed .ensures in
+    inl (record { wrong = not-sized 34 22 _ _ (c .before .if1 .taken); answers = m .0; counts = m .1; places = m .2; same = refl })
+
+of-bytes-requires : tie.Need-of-bytes-requires
+of-bytes-requires c κs = search needs
+
+search-requires : tie.Need-search-requires
+search-requires c κs = search needs
+
+missed-requires-2 : tie.Need-missed-requires-2
+missed-requires-2 c κs = search needs
+
+returns-2 : tie.Need-returns-2
+returns-2 c =
+    let s = c .before .before .before in
+    let m = c .missed2 .ensures in
+    inr (inl (record {
+      sized = sized s;
+      none = searched s .missed (not-true (s .search .result .near) (c .before .if2 .taken)) .0;
+      answers = m .0;
+      counts = m .1;
+      places = m .2;
+      same = refl;
+    }))
+
+holds-requires : tie.Need-holds-requires
+holds-requires c κs =
+    let e = c .before .before .before in
+    searched (e .before .before) .met (not-false (e .before .before .search .result .near) (e .if2 .left)) .0
+
+returns-3 : tie.Need-returns-3
+returns-3 c =
+    let h = c .before .holds in
+    let e = c .before .before .before .before .before in
+    let s = e .before .before in
     inr (inr (inl (record {
-      sized = m .0;
-      word = f .result .word;
-      found = m .2;
-      wrong = λ r. false≢true (sym (not-true _ (c .if2 .taken)) ∙ h .holds .ensures ∙ check-tested (f .result .word) (code-length _ (m .2 .code)) .1 r);
+      sized = sized s;
+      word = rowOfWords (s .search .result .word);
+      found = searched s .met (not-false (s .search .result .near) (e .if2 .left)) .1;
+      wrong = λ r. false≢true (sym (not-true (h .result) (c .if3 .taken)) ∙ h .ensures .1 r);
       answers = refl;
       same = refl;
     })))
 
 fill-bytes-requires : tie.Need-fill-bytes-requires
-fill-bytes-requires c κs =
-    let e = c .before .before .before .before .before .before in
-    let m = e .before .before .find .ensures .met (e .if1 .taken) in
-    omega (arith, m .0 .output, code-length _ (m .2 .code))
+fill-bytes-requires c κs = search needs
 
-returns-2 : tie.Need-returns-2
-returns-2 c =
-    let b = c .before .before in
-    let i = b .before .before .before in
-    let h = i .before in
-    let e = h .before .before .before in
-    let f = e .before .before .find in
-    let m = f .ensures .met (e .if1 .taken) in
+same-length : tie.Need-same-length
+same-length c = search needs
+
+returns-4 : tie.Need-returns-4
+returns-4 c =
+    let f = c .before .before .fill-bytes in
+    let i = c .before .before .before .before in
+    let e = i .before .before .before .before .before in
+    let s = e .before .before in
+    let room : length (s .before .before .before .before .before .args .out .now) ≤ 34 = omega (arith, sized s .output) in
     inr (inr (inr (record {
-      sized = m .0;
-      word = f .result .word;
-      found = m .2;
-      right = check-tested (f .result .word) (code-length _ (m .2 .code)) .0 (sym (h .holds .ensures) ∙ not-false _ (i .if2 .left));
-      answers = m .1;
-      long = b .fill-bytes .kept .1 .0 ∙ m .0 .output;
-      given = b .fill-bytes .ensures ∙ ap (λ (n : ℕ). take (8 * n) (f .result .word)) (m .0 .output);
+      sized = sized s;
+      word = rowOfWords (s .search .result .word);
+      found = searched s .met (not-false (s .search .result .near) (e .if2 .left)) .1;
+      right = i .before .holds .ensures .0 (not-false (i .before .holds .result) (i .if3 .left));
+      answers = refl;
+      long = f .ensures .long ∙ sized s .output;
+      given = f .ensures .block room ∙ ap (λ (n : ℕ). take (8 * n) (rowOfWords (s .search .result .word))) (sized s .output);
     })))
-
-returns-3 : tie.Need-returns-3
-returns-3 c = ⊎-elim inl (λ u. inr (inl u)) (c .before .before .find .ensures .missed (c .if1 .left))
 
 pub read-block-spec : {M : Type 1} → statement M
 read-block-spec =
     tie.close
     (tie.spec
-    (λ c κs. search needs)
-    holds-requires
-    (λ c. search needs)
+    missed-requires
     returns
-    (λ c. search needs)
-    fill-bytes-requires
-    (λ c. search needs)
+    of-bytes-requires
+    search-requires
+    missed-requires-2
     returns-2
-    (λ c. search needs)
-    returns-3)
+    holds-requires
+    returns-3
+    fill-bytes-requires
+    same-length
+    returns-4)

@@ -1,28 +1,22 @@
--- `block::check::holds`: the 14 bits are the check of the information where the divisor divides both. Assumes nothing.
-use Rattle.block.proofs.Checks.{check-length}
-use Rattle.gf2.specs.Poly.{allZero, remainder}
-use lib.ListN.{take, length}
-use Prim.Native.Nat.{_-_}
-use native.Mathlib.Omega.{arith}
-use mathlib.Core.Path.{_≡_, ap, _∙_}
+-- `block::check::holds`: the number of the 14 places is that of the check. Assumes nothing.
+use Rattle.block.proofs.Folds.{check-right}
+use borrow.Author.Tests.{eqb-true, eq-eqb}
 use borrow.Author.Needs.{needs}
 use Rattle.block.proofs.check.holds.Statement.{statement}
 use Rattle.block.proofs.check.holds.Tie as tie
 
-divisor-requires : tie.Need-divisor-requires
-divisor-requires c κs = search needs
+check-of-requires : tie.Need-check-of-requires
+check-of-requires c κs = search needs
 
-slice-aggregate-divides : tie.Need-slice-aggregate-divides
-slice-aggregate-divides c = search needs
-
-divides-requires : tie.Need-divides-requires
-divides-requires c κs = search needs
+element-copy-out-result : tie.Need-element-copy-out-result
+element-copy-out-result c = search needs
 
 returns : tie.Need-returns
 returns c =
-    let d = c .before .before .divisor in
-    let steps : 190 - length (d .result) ≡ 176 = omega (arith, ap length (d .ensures), check-length) in
-    c .divides .ensures ∙ (λ i. allZero (remainder (d .ensures i) (steps i) (take 190 (c .before .before .before .args .row .now))))
+    let o = c .before .check-of in
+    let a = c .before .before in
+    let right = check-right (a .args .row .now) (a .pre) (o .result) (o .ensures .0) (o .ensures .1) in
+    (λ t. right .0 (eqb-true _ _ t), λ r. eq-eqb _ _ (right .1 r))
 
 pub holds-spec : {M : Type 1} → statement M
-holds-spec = tie.close (tie.spec divisor-requires slice-aggregate-divides divides-requires returns)
+holds-spec = tie.close (tie.spec check-of-requires element-copy-out-result returns)

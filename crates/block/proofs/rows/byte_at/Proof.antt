@@ -1,7 +1,7 @@
 -- `block::rows::byte_at`: the places from j on are in the byte. Assumes nothing.
 use native.Mathlib.Nat.{add-zero}
 use Rattle.block.proofs.Turns.{byte-turn, byte-small}
-use Rattle.block.specs.Bytes.{byteOf}
+use Rattle.words.specs.Bytes.{byteOf}
 use lib.ListN.{take, drop}
 use lib.Dec.{lit≤}
 use borrow.Author.Needs.{needs}

@@ -1,7 +1,7 @@
 -- `block::rows::fill_bytes`: the bytes below k are packed. Assumes nothing.
 use mathlib.Core.Path.{refl, _≡_, ap, _∙_}
-use Rattle.block.proofs.Bytes.{bytes-filled}
-use Rattle.block.specs.Bytes.{byteOf}
+use Rattle.words.proofs.Bytes.{bytes-filled}
+use Rattle.words.specs.Bytes.{byteOf}
 use Rattle.gf2.proofs.Lists.{Filled, filled-more}
 use lib.ListN.{length, take, drop, length-set}
 use borrow.Author.Needs.{needs}

@@ -1,6 +1,6 @@
 -- `block::rows::fill_row`: the places below p hold the bits of the bytes, the rest is as it was. Assumes nothing.
-use Rattle.block.proofs.Bytes.{length-bitsOf, getD-bitsOf}
-use Rattle.block.specs.Bytes.{bitOf, rowOf}
+use Rattle.words.proofs.Bytes.{length-bitsOf, getD-bitsOf}
+use Rattle.words.specs.Bytes.{bitOf, rowOf}
 use Rattle.gf2.proofs.Lists.{front-turn}
 use lib.Seq.{take-all}
 use lib.ListN.{length, take, drop, length-set}
