@@ -20,13 +20,13 @@ static int find(const u8 *received, u64 *word, u64 *changed);
 // Whether the 14 check bits of a code word are those of its information.
 static int check_holds(const u64 *word);
 
-static inline u64 turned(u64 word, int by) {
+static inline u64 rotated(u64 word, int by) {
     return word << by | word >> (64 - by);
 }
 
-// One number of the five words, each turned by another amount, so that none can stand for another, and both halves.
+// One number of the five words, each rotated by another amount, so that none can stand for another, and both halves of it.
 static inline u64 mixed(const u64 *w) {
-    u64 whole = w[0] ^ turned(w[1], 13) ^ turned(w[2], 26) ^ turned(w[3], 39) ^ turned(w[4], 52);
+    u64 whole = w[0] ^ rotated(w[1], 13) ^ rotated(w[2], 26) ^ rotated(w[3], 39) ^ rotated(w[4], 52);
     return ((whole >> 32) * 31 + whole % 4294967296) % 4294967296;
 }
 

@@ -1,4 +1,4 @@
-// Corrector and block reader in C, the fastest way that we know. A row stands in bytes: its bits from any place on are a load at the byte
+// Corrector and block reader in C, the fastest way that we found. A row stands in bytes: its bits from any place on are a load at the byte
 // and a shift by less than eight, after which 57 of 64 hold, so rows are taken in five pieces of 56. Parity sums are
 // exclusive ors of such pieces. Each sum follows from the 82 before it, so a row is a code word where 82 in turn are even.
 // Votes are added up in bit planes, for two pieces at once in a vector.
@@ -47,7 +47,7 @@ static inline u64 sums(const u8 *row, int from) {
     return odd;
 }
 
-// Whether the first sums are even, of which the first piece is told.
+// Whether the first 82 sums are even; the first piece of them is given.
 static inline int all_even(u64 first, const u8 *row) {
     return !low(first | sums(row, FREE - HELD), HELD);
 }

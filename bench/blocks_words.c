@@ -1,7 +1,7 @@
-// Corrector and block reader in C on the five 64-bit words of a row, the way that the proved code goes: the circle of 273
-// stands twice in ten words, so that a row turned round it is two shifts a word. Each sum follows from the 82 before it, so
-// a row is a code word where two words of sums are even. Votes are added up in bit planes, a word at a time, until a ninth
-// place is turned.
+// Corrector and block reader in C on the five 64-bit words of a row, as the proved code goes: the circle of 273 stands twice
+// in ten words, so that a row shifted round it is two shifts a word. Each sum follows from the 82 before it, so a row is a
+// code word where two words of sums are even. Votes are added up in bit planes, a word at a time, until a ninth place is
+// turned; the planes by a tree of adders, where the proved code carries two sums at a time from plane to plane.
 #include "blocks.h"
 #include "check_words.h"
 

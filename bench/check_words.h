@@ -1,4 +1,4 @@
-// The 14 check bits of a code word in 64-bit words: what its information leaves, divided by x^14 + x^11 + x^2 + 1.
+// The check of a code word in 64-bit words: information and check bits, 190 places, divided by x^14 + x^11 + x^2 + 1.
 
 // Divides the places of a word by a polynomial whose lower terms are so far behind its leading one. Squares take all of
 // them at once: 1 / (1 + u) is (1 + u) (1 + u^2) (1 + u^4) and so on.

@@ -60,14 +60,14 @@ fn told(sum: u64, done: Corrected) -> u64 {
     }
 }
 
-// One number of the five words, each turned by another amount, so that none can stand for another, and both halves.
+// One number of the five words, each rotated by another amount, so that none can stand for another, and both halves of it.
 fn mixed(words: &[u64; BLOCK_WORDS]) -> u64 {
-    let front = words[0] ^ turned(words[1], 13) ^ turned(words[2], 26);
-    let whole = front ^ turned(words[3], 39) ^ turned(words[4], 52);
+    let front = words[0] ^ rotated(words[1], 13) ^ rotated(words[2], 26);
+    let whole = front ^ rotated(words[3], 39) ^ rotated(words[4], 52);
     records::add(whole >> 32, whole)
 }
 
-fn turned(word: u64, by: u32) -> u64
+fn rotated(word: u64, by: u32) -> u64
     requires { ⌜ (0 < by) × (by < 64) ⌝ }
 {
     word << by | word >> (64 - by)

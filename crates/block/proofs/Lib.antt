@@ -1,9 +1,9 @@
 pub mod Checks
 pub mod Turns
-pub mod Outcomes
+pub mod Lengths
 pub mod Blocks
 pub mod Linear
-pub mod Folds
+pub mod Quotients
 pub mod RoundTrip
 pub mod Determined
 pub mod Changed

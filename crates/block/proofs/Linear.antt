@@ -16,7 +16,7 @@ use Rattle.words.specs.Bytes.{bitOf, byteOf}
 use Rattle.words.proofs.Bytes.{bitOf-zero, bits-once}
 use Rattle.words.proofs.Shifts.{bitOf-xor}
 use Rattle.words.proofs.Words.{same-at, bitAt-add}
-use Rattle.block.specs.Folds.{spread}
+use Rattle.block.specs.Quotients.{spread}
 
 -- numbers of the same bits are the same
 below-power : (x : ℕ) → x < 2 ^ x

@@ -1,3 +1,3 @@
 pub mod Corrector
 pub mod Blocks
-pub mod Folds
+pub mod Quotients

@@ -32,17 +32,17 @@ unfolding checkPositions generator paritySum
 generator-even t h = is-false _ (tested 273 (λ u. not (paritySum (true ∷ generator) u)) tt t h)
 
 -- the sum at shift t has the place v
-abbrev pub holds : ℕ → ℕ → Bool
-holds t v = parityOver (λ s. eqb v ((t + s) % 273)) checkPositions
+abbrev pub has : ℕ → ℕ → Bool
+has t v = parityOver (λ s. eqb v ((t + s) % 273)) checkPositions
 
--- eleven of the 82 shifts from 192 round to 0, found by elimination: no other choice of those 82 does what `alone` says
+-- eleven of the 82 shifts from 192 round to 0, found by elimination
 unfoldable pub singling : List ℕ
 singling = 0 ∷ 206 ∷ 224 ∷ 230 ∷ 242 ∷ 252 ∷ 254 ∷ 256 ∷ 260 ∷ 266 ∷ 272 ∷ []
 
 -- OF THE FIRST 82 PLACES THE ELEVEN SUMS, ADDED, HAVE PLACE 0 ALONE
-pub alone : (v : ℕ) → v < 82 → eqb v 0 ≡ parityOver (λ k. holds k v) singling
+pub alone : (v : ℕ) → v < 82 → eqb v 0 ≡ parityOver (λ k. has k v) singling
 unfolding checkPositions singling
-alone v h = ⊕-zero _ _ (is-false _ (tested 82 (λ w. not (eqb w 0 ⊕ parityOver (λ k. holds k w) singling)) tt v h))
+alone v h = ⊕-zero _ _ (is-false _ (tested 82 (λ w. not (eqb w 0 ⊕ parityOver (λ k. has k w) singling)) tt v h))
 
 pub generator-length : length generator ≡ 82
 unfolding generator

@@ -14,8 +14,8 @@ use Rattle.gf2.proofs.Remainders.{length-scale, length-add, remainder-multiple}
 use Rattle.code.specs.Code.{generator, CodeWord}
 use Rattle.code.specs.Vote.{bitAt, parityOver, checkPositions, paritySum}
 use Rattle.code.proofs.Sums.{parityOver-cong}
-use Rattle.code.proofs.Computed.{holds, singling, alone, generator-length}
-use Rattle.code.proofs.Orthogonal.{masked, masked-add, masked-scale, masked-nowhere, masked-cong, masked-⊕, masked-one, masked-over, sum-masked, turned-on, generator-holds}
+use Rattle.code.proofs.Computed.{has, singling, alone, generator-length}
+use Rattle.code.proofs.Orthogonal.{masked, masked-add, masked-scale, masked-nowhere, masked-cong, masked-⊕, masked-one, masked-over, sum-masked, shifted-on, generator-has}
 
 -- 82 parity sums in a row, from a shift on, are even
 abbrev EvenFrom : List Bool → ℕ → Type 0
@@ -37,9 +37,9 @@ module _ (row : List Bool) (l : length row ≡ 272) where
   cancel : (t : ℕ) → masked (λ i. paritySum row (t + (82 - i))) (true ∷ generator) ≡ false
   cancel t =
       (λ j. masked (λ i. sum-masked row (t + (82 - i)) j) (true ∷ generator))
-      ∙ masked-swap (λ i. holds (t + (82 - i))) (true ∷ generator) row
-      ∙ masked-cong 273 (λ v. masked (λ i. holds (t + (82 - i)) v) (true ∷ generator)) (λ v. false) row (omega arith)
-      (λ v h. generator-holds (t + 82 + 272 * v) (λ i. holds (t + (82 - i)) v) (λ i g. turned-on (t + (82 - i)) (t + 82 + 272 * v) v i h (omega arith) (omega arith)))
+      ∙ masked-swap (λ i. has (t + (82 - i))) (true ∷ generator) row
+      ∙ masked-cong 273 (λ v. masked (λ i. has (t + (82 - i)) v) (true ∷ generator)) (λ v. false) row (omega arith)
+      (λ v h. generator-has (t + 82 + 272 * v) (λ i. has (t + (82 - i)) v) (λ i g. shifted-on (t + (82 - i)) (t + 82 + 272 * v) v i h (omega arith) (omega arith)))
       ∙ masked-nowhere row
 
   -- so a sum is even where the 82 before it are
@@ -55,11 +55,11 @@ module _ (row : List Bool) (l : length row ≡ 272) where
   one-on : (t u : ℕ) → paritySum row (suc t + u) ≡ paritySum row (t + suc u)
   one-on t u = ap (paritySum row) (omega arith)
 
-  spread : (n t : ℕ) → EvenFrom row t → paritySum row (t + n) ≡ false
-  spread zero t even = even 0 (omega arith)
-  spread (suc n) t even =
+  onward : (n t : ℕ) → EvenFrom row t → paritySum row (t + n) ≡ false
+  onward zero t even = even 0 (omega arith)
+  onward (suc n) t even =
       sym (one-on t n)
-      ∙ spread n (suc t)
+      ∙ onward n (suc t)
       (λ u h. one-on t u
       ∙ elim (decLt (suc u) 82) [
         | yes g ↦ even (suc u) g
@@ -70,13 +70,13 @@ module _ (row : List Bool) (l : length row ≡ 272) where
   unfolding paritySum
   every start even t =
       parityOver-cong (λ s. bitAt row ((t + s) % 273)) (λ s. bitAt row ((start + (272 * start + t) + s) % 273)) checkPositions (λ s m. ap (bitAt row) (omega arith))
-      ∙ spread (272 * start + t) start even
+      ∙ onward (272 * start + t) start even
 
 -- a leading zero left off leaves all sums even
 zero-off : (row : List Bool) → length row < 273 → ((t : ℕ) → paritySum (false ∷ row) t ≡ false) → (t : ℕ) → paritySum row t ≡ false
 zero-off row l even t =
     sum-masked row t
-    ∙ masked-cong (length row) (holds t) (λ v. holds (suc t) (suc v)) row (omega arith) (λ v h. turned-on t (suc t) v (suc v) (omega arith) (omega arith) (omega arith))
+    ∙ masked-cong (length row) (has t) (λ v. has (suc t) (suc v)) row (omega arith) (λ v h. shifted-on t (suc t) v (suc v) (omega arith) (omega arith) (omega arith))
     ∙ sym (sum-masked (false ∷ row) (suc t))
     ∙ even (suc t)
 
@@ -89,9 +89,9 @@ all-zero (b ∷ row) l even = λ i. first i ∷ all-zero row (omega arith) (zero
     first : b ≡ false
     first =
         sym (masked-one (b ∷ row) 0)
-        ∙ masked-cong 82 (λ v. eqb v 0) (λ v. parityOver (λ k. holds k v) singling) (b ∷ row) l alone
-        ∙ masked-over holds singling (b ∷ row)
-        ∙ parityOver-cong (λ k. masked (holds k) (b ∷ row)) (λ k. false) singling (λ k m. sym (sum-masked (b ∷ row) k) ∙ even k)
+        ∙ masked-cong 82 (λ v. eqb v 0) (λ v. parityOver (λ k. has k v) singling) (b ∷ row) l alone
+        ∙ masked-over has singling (b ∷ row)
+        ∙ parityOver-cong (λ k. masked (has k) (b ∷ row)) (λ k. false) singling (λ k m. sym (sum-masked (b ∷ row) k) ∙ even k)
 
 -- the long division leaves all sums even, so its remainder is zero: what a step brings in is the generator
 gone : (b : Bool) → (b && true) ⊕ b ≡ false
@@ -102,8 +102,8 @@ less : (b : Bool) (row : List Bool) → 82 ≤ length row → ((t : ℕ) → par
 less b row l even t =
     ap (λ z. paritySum (z ∷ add (scale b generator) row) t) (sym (gone b))
     ∙ sum-masked (add (scale b (true ∷ generator)) (b ∷ row)) t
-    ∙ masked-add (holds t) (scale b (true ∷ generator)) (b ∷ row) (rw length-scale (omega (arith, generator-length)))
-    ∙ (λ i. (masked-scale (holds t) b (true ∷ generator) ∙ ap (λ z. b && z) (generator-holds t (holds t) (λ v h. refl)) ∙ and-false b) i ⊕ (sym (sum-masked (b ∷ row) t) ∙ even t) i)
+    ∙ masked-add (has t) (scale b (true ∷ generator)) (b ∷ row) (rw length-scale (omega (arith, generator-length)))
+    ∙ (λ i. (masked-scale (has t) b (true ∷ generator) ∙ ap (λ z. b && z) (generator-has t (has t) (λ v h. refl)) ∙ and-false b) i ⊕ (sym (sum-masked (b ∷ row) t) ∙ even t) i)
 
 no-remainder : (k : ℕ) (row : List Bool) → length row ≡ k + length generator → length row ≤ 273 → ((t : ℕ) → paritySum row t ≡ false) → remainder generator k row ≡ replicate (length generator) false
 no-remainder zero row l h even = all-zero row (omega (arith, generator-length)) even ∙ ap (λ (n : ℕ). replicate n false) (l ∙ zero-add (length generator))

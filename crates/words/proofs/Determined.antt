@@ -10,13 +10,13 @@ use lib.Pow.{areBytes}
 use Rattle.code.specs.Code.{difference, ones}
 use Rattle.code.proofs.Majority.{only-word}
 use Rattle.words.specs.declared.Found.{Found}
-use Rattle.words.specs.Words.{rowOfWords, Taken, Given}
+use Rattle.words.specs.Words.{rowOfWords, OfBytes, FilledBytes}
 use Rattle.words.specs.Near.{Near, Searched}
 use Rattle.words.proofs.Bytes.{row-once}
 use Rattle.words.proofs.Words.{words-once, length-row}
 
 -- `of_bytes`
-pub of-bytes-once : (bytes xs ys : List ℕ) → Taken bytes xs → Taken bytes ys → xs ≡ ys
+pub of-bytes-once : (bytes xs ys : List ℕ) → OfBytes bytes xs → OfBytes bytes ys → xs ≡ ys
 of-bytes-once bytes xs ys u v =
     elim (ℕ-discrete (length bytes) 34) [
       | yes l ↦ words-once xs ys (u .five) (v .five) (u .block l ∙ sym (v .block l))
@@ -24,7 +24,7 @@ of-bytes-once bytes xs ys u v =
     ]
 
 -- `fill_bytes`, where the output holds bytes
-pub fill-bytes-once : (words before x y : List ℕ) → areBytes x ≡ true → areBytes y ≡ true → Given words before x → Given words before y → x ≡ y
+pub fill-bytes-once : (words before x y : List ℕ) → areBytes x ≡ true → areBytes y ≡ true → FilledBytes words before x → FilledBytes words before y → x ≡ y
 fill-bytes-once words before x y bx by u v =
     elim (decLt 34 (length before)) [
       | yes l ↦ u .other l ∙ sym (v .other l)
@@ -47,11 +47,11 @@ search-once words r s five u v = go (r .near) (s .near) refl refl
 
     go : (a b : Bool) → r .near ≡ a → s .near ≡ b → r ≡ s
     go true true e f =
-        let once = found-once (length-row words five) (u .met e .1) (v .met f .1) in
-        both (e ∙ sym f) (words-once (r .word) (s .word) (u .met e .0) (v .met f .0) (once .0)) (once .1)
-    go true false e f = absurd (v .missed f .0 _ (u .met e .1 .code) (u .met e .1 .near))
-    go false true e f = absurd (u .missed e .0 _ (v .met f .1 .code) (v .met f .1 .near))
+        let once = found-once (length-row words five) (u .some e .1) (v .some f .1) in
+        both (e ∙ sym f) (words-once (r .word) (s .word) (u .some e .0) (v .some f .0) (once .0)) (once .1)
+    go true false e f = absurd (v .none f .0 _ (u .some e .1 .code) (u .some e .1 .near))
+    go false true e f = absurd (u .none e .0 _ (v .some f .1 .code) (v .some f .1 .near))
     go false false e f =
-        let x = u .missed e in
-        let y = v .missed f in
+        let x = u .none e in
+        let y = v .none f in
         both (e ∙ sym f) (x .1 ∙ sym (y .1)) (x .2 ∙ sym (y .2), x .3 ∙ sym (y .3))

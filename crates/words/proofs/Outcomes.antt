@@ -20,16 +20,16 @@ use Rattle.words.specs.declared.Found.{Found}
 use Rattle.words.specs.Bytes.{bitOf, bitIn, rowOf}
 use Rattle.words.specs.Words.{FiveWords, rowOfWords, zeroWords}
 use Rattle.words.specs.Near.{Near, NoneNear, Searched}
-use Rattle.words.specs.Circle.{Holds, Carry, turned}
+use Rattle.words.specs.Circle.{Holds, Lies, turned}
 use Rattle.words.proofs.Bytes.{length-bitsOf, getD-bitsOf}
 use Rattle.words.proofs.Shifts.{bitOf-xor, bitOf-mod, bitOf-high}
-use Rattle.words.proofs.Words.{bitAt-add, bit-in, carried, length-row, bit-row, five-carry, zero-row, zero-five}
+use Rattle.words.proofs.Words.{bitAt-add, bit-in, lying, length-row, bit-row, five-lies, zero-row, zero-five}
 use Rattle.words.proofs.Counts.{length-turned, bit-turned}
 
 -- FIVE WORDS FROM ANYWHERE, without the bits behind the last place
-pub given-carry : (ws : List ℕ) → length ws ≡ 5 → Carry (getD ws 0 0 ∷ getD ws 1 0 ∷ getD ws 2 0 ∷ getD ws 3 0 ∷ getD ws 4 0 % 2 ^ 16 ∷ []) (rowOfWords ws)
-given-carry ws l =
-    carried (getD ws 0 0 ∷ getD ws 1 0 ∷ getD ws 2 0 ∷ getD ws 3 0 ∷ getD ws 4 0 % 2 ^ 16 ∷ []) (rowOfWords ws)
+pub given-lies : (ws : List ℕ) → length ws ≡ 5 → Lies (getD ws 0 0 ∷ getD ws 1 0 ∷ getD ws 2 0 ∷ getD ws 3 0 ∷ getD ws 4 0 % 2 ^ 16 ∷ []) (rowOfWords ws)
+given-lies ws l =
+    lying (getD ws 0 0 ∷ getD ws 1 0 ∷ getD ws 2 0 ∷ getD ws 3 0 ∷ getD ws 4 0 % 2 ^ 16 ∷ []) (rowOfWords ws)
     (whole 0 (lit< tt), (whole 1 (lit< tt), (whole 2 (lit< tt), (whole 3 (lit< tt), (last, tt))))) (omega (arith, length-row ws l))
   where
     whole : (i : ℕ) → i < 4 → Holds (getD ws i 0) (bitAt (rowOfWords ws)) (64 * i)
@@ -45,11 +45,11 @@ given-carry ws l =
         ]
 
 -- THE WORDS OF A BLOCK'S BYTES
-pub block-carry : (bytes : List ℕ) (a b c d e : ℕ) → length bytes ≡ 34 → Holds a (bitIn 8 bytes) 0 → Holds b (bitIn 8 bytes) 64 → Holds c (bitIn 8 bytes) 128
+pub block-lies : (bytes : List ℕ) (a b c d e : ℕ) → length bytes ≡ 34 → Holds a (bitIn 8 bytes) 0 → Holds b (bitIn 8 bytes) 64 → Holds c (bitIn 8 bytes) 128
     → Holds d (bitIn 8 bytes) 192 → ((k : ℕ) → k < 16 → bitOf e k ≡ bitIn 8 bytes (256 + k)) → ((k : ℕ) → 16 ≤ k → bitOf e k ≡ false)
-    → Carry (a ∷ b ∷ c ∷ d ∷ e ∷ []) (rowOf bytes)
-block-carry bytes a b c d e l ha hb hc hd he none =
-    carried (a ∷ b ∷ c ∷ d ∷ e ∷ []) (rowOf bytes) (whole a 0 (lit< tt) ha, (whole b 64 (lit< tt) hb, (whole c 128 (lit< tt) hc, (whole d 192 (lit< tt) hd, (last, tt)))))
+    → Lies (a ∷ b ∷ c ∷ d ∷ e ∷ []) (rowOf bytes)
+block-lies bytes a b c d e l ha hb hc hd he none =
+    lying (a ∷ b ∷ c ∷ d ∷ e ∷ []) (rowOf bytes) (whole a 0 (lit< tt) ha, (whole b 64 (lit< tt) hb, (whole c 128 (lit< tt) hc, (whole d 192 (lit< tt) hd, (last, tt)))))
     (omega (arith, length-bitsOf 8 bytes))
   where
     whole : (w p : ℕ) → p < 209 → Holds w (bitIn 8 bytes) p → Holds w (bitAt (rowOf bytes)) p
@@ -63,11 +63,11 @@ block-carry bytes a b c d e l ha hb hc hd he none =
         ]
 
 -- A ROW WITH SOME PLACES CHANGED
-pub sum-carry : (xs ys : List ℕ) → FiveWords xs → FiveWords ys
-    → Carry (bitXor (getD xs 0 0) (getD ys 0 0) ∷ bitXor (getD xs 1 0) (getD ys 1 0) ∷ bitXor (getD xs 2 0) (getD ys 2 0) ∷ bitXor (getD xs 3 0) (getD ys 3 0) ∷ bitXor (getD xs 4 0) (getD ys 4 0) ∷ [])
+pub sum-lies : (xs ys : List ℕ) → FiveWords xs → FiveWords ys
+    → Lies (bitXor (getD xs 0 0) (getD ys 0 0) ∷ bitXor (getD xs 1 0) (getD ys 1 0) ∷ bitXor (getD xs 2 0) (getD ys 2 0) ∷ bitXor (getD xs 3 0) (getD ys 3 0) ∷ bitXor (getD xs 4 0) (getD ys 4 0) ∷ [])
     (difference (rowOfWords xs) (rowOfWords ys))
-sum-carry xs ys u v =
-    carried words (difference (rowOfWords xs) (rowOfWords ys)) (word 0, (word 1, (word 2, (word 3, (word 4, tt)))))
+sum-lies xs ys u v =
+    lying words (difference (rowOfWords xs) (rowOfWords ys)) (word 0, (word 1, (word 2, (word 3, (word 4, tt)))))
     (omega (arith, length-add (rowOfWords xs) (rowOfWords ys), length-row ys (v .five)))
   where
     words : List ℕ
@@ -76,7 +76,7 @@ sum-carry xs ys u v =
     word : (i : ℕ) → Holds (bitXor (getD xs i 0) (getD ys i 0)) (bitAt (difference (rowOfWords xs) (rowOfWords ys))) (64 * i)
     word i k g =
         bitOf-xor (getD xs i 0) (getD ys i 0) k
-        ∙ (λ t. (bit-in xs i k g ∙ five-carry xs u (64 * i + k)) t ⊕ (bit-in ys i k g ∙ five-carry ys v (64 * i + k)) t)
+        ∙ (λ t. (bit-in xs i k g ∙ five-lies xs u (64 * i + k)) t ⊕ (bit-in ys i k g ∙ five-lies ys v (64 * i + k)) t)
         ∙ bitAt-add (rowOfWords xs) (rowOfWords ys) (64 * i + k) (length-row xs (u .five) ∙ sym (length-row ys (v .five)))
 
 -- a row has no ones where it is zero
@@ -135,8 +135,8 @@ module _ (row : List Bool) (l : length row ≡ 272) where
   -- WHAT IS FOUND, with a code word and without
   pub found-clean : (given : List ℕ) → FiveWords given → rowOfWords given ≡ row → CodeWord row → Searched row (record { near = true; word = given; count = 0; changed = zeroWords })
   found-clean given five same code = record {
-    met = λ z. (five, subst (λ (w : List Bool). Near row w 0 zeroWords) (sym same) (clean-near code));
-    missed = λ z. absurd (false≢true (sym z));
+    some = λ z. (five, subst (λ (w : List Bool). Near row w 0 zeroWords) (sym same) (clean-near code));
+    none = λ z. absurd (false≢true (sym z));
   }
 
   pub found-voted : (count : ℕ) (changed given word : List ℕ) → rowOfWords given ≡ row → FiveWords changed → rowOfWords changed ≡ turned (paritySums row) → count ≡ ones (turned (paritySums row))
@@ -145,12 +145,12 @@ module _ (row : List Bool) (l : length row ≡ 272) where
   found-voted count changed given word same five places counts few sum code =
       let is : rowOfWords word ≡ voted row = voted-word changed given word same places (sum .1) in
       record {
-        met = λ z. (sum .0, subst (λ (w : List Bool). Near row w count changed) (sym is) (voted-near count changed five places counts few (subst CodeWord is code)));
-        missed = λ z. absurd (false≢true (sym z));
+        some = λ z. (sum .0, subst (λ (w : List Bool). Near row w count changed) (sym is) (voted-near count changed five places counts few (subst CodeWord is code)));
+        none = λ z. absurd (false≢true (sym z));
       }
 
   pub found-none : (found : Found) → (found .near ≡ false) × (found .word ≡ zeroWords) × (found .count ≡ 0) × (found .changed ≡ zeroWords) → NoneNear row → Searched row found
-  found-none found zeros none = record { met = λ z. absurd (false≢true (sym (zeros .0) ∙ z)); missed = λ z. (none, zeros .1, zeros .2, zeros .3) }
+  found-none found zeros none = record { some = λ z. absurd (false≢true (sym (zeros .0) ∙ z)); none = λ z. (none, zeros .1, zeros .2, zeros .3) }
 
 pub of-row : {row other : List Bool} {found : Found} → row ≡ other → Searched row found → Searched other found
 of-row {row} {other} {found} e s = subst (λ (x : List Bool). Searched x found) e s

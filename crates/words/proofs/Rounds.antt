@@ -22,10 +22,10 @@ use Rattle.code.proofs.Computed.{positions-below}
 use Rattle.code.proofs.Orthogonal.{code-even}
 use Rattle.code.proofs.Spanned.{even-code}
 use Rattle.words.specs.Bytes.{bitOf, bitIn}
-use Rattle.words.specs.Circle.{Holds, Carry, Round}
+use Rattle.words.specs.Circle.{Holds, Lies, Round}
 use Rattle.words.proofs.Bytes.{bitOf-zero, bits-once}
 use Rattle.words.proofs.Shifts.{bitOf-or, bitOf-mod, bitOf-high, bitOf-shl, bitOf-shl-low, joined-low, joined-high}
-use Rattle.words.proofs.Words.{Held, bit-in, held-at, carried}
+use Rattle.words.proofs.Words.{Held, bit-in, held-at, lying}
 
 -- A PART: 64 places that begin inside a word
 pub part-at : (ws : List ℕ) (at k : ℕ) → 0 < at % 64 → k < 64 → getD ws (at / 64) 0 < 2 ^ 64
@@ -65,10 +65,10 @@ abbrev rounds : List Bool → ℕ → Bool
 rounds bits p = ltb p 546 && bitAt bits (p % 273)
 
 -- A ROW TWICE ROUND, over any row of at most 273 places
-module _ (row : List ℕ) (bits : List Bool) (l : length bits ≤ 273) (carry : Carry row bits) where
+module _ (row : List ℕ) (bits : List Bool) (l : length bits ≤ 273) (lies : Lies row bits) where
   -- a word of the first or of the second round
   round-word : (w q p : ℕ) → Holds w (bitIn 64 row) q → ((k : ℕ) → k < 64 → (p + k < 546) × ((p + k) % 273 ≡ q + k)) → Holds w (rounds bits) p
-  round-word w q p h on k g = h k g ∙ carry (q + k) ∙ (λ i. sym (lt-ltb (p + k) 546 (on k g .0)) i && bitAt bits (sym (on k g .1) i))
+  round-word w q p h on k g = h k g ∙ lies (q + k) ∙ (λ i. sym (lt-ltb (p + k) 546 (on k g .0)) i && bitAt bits (sym (on k g .1) i))
 
   -- the word in which the second begins
   seam : Holds (bitOr (getD row 4 0) (getD row 0 0 * 2 ^ 17 % 2 ^ 64)) (rounds bits) 256
@@ -77,19 +77,19 @@ module _ (row : List ℕ) (bits : List Bool) (l : length bits ≤ 273) (carry : 
       ∙ elim (decLt k 17) [
         | yes g ↦
             ap (λ z. bitOf (getD row 4 0) k || z) (bitOf-mod (getD row 0 0 * 2 ^ 17) 64 k h ∙ bitOf-shl-low (getD row 0 0) 17 k g)
-            ∙ or-false (bitOf (getD row 4 0) k) ∙ bit-in row 4 k h ∙ carry (256 + k) ∙ ap (bitAt bits) (sym (mod-eq-of-lt (omega arith)))
+            ∙ or-false (bitOf (getD row 4 0) k) ∙ bit-in row 4 k h ∙ lies (256 + k) ∙ ap (bitAt bits) (sym (mod-eq-of-lt (omega arith)))
         | no g ↦
             let e : k ≡ 17 + (k - 17) = omega arith in
-            (λ i. (bit-in row 4 k h ∙ carry (256 + k) ∙ List·getD-eq-default bits false {n = 256 + k} (omega arith)) i
+            (λ i. (bit-in row 4 k h ∙ lies (256 + k) ∙ List·getD-eq-default bits false {n = 256 + k} (omega arith)) i
             || (bitOf-mod (getD row 0 0 * 2 ^ 17) 64 k h ∙ ap (bitOf (getD row 0 0 * 2 ^ 17)) e ∙ bitOf-shl (getD row 0 0) 17 (k - 17)) i)
-            ∙ bit-in row 0 (k - 17) (omega arith) ∙ carry (0 + (k - 17)) ∙ ap (bitAt bits) (omega arith)
+            ∙ bit-in row 0 (k - 17) (omega arith) ∙ lies (0 + (k - 17)) ∙ ap (bitAt bits) (omega arith)
       ]
       ∙ (λ i. sym (lt-ltb (256 + k) 546 (omega arith)) i && bitAt bits ((256 + k) % 273))
 
   -- the word in which it ends
   last : (w : ℕ) → Holds w (bitIn 64 row) 239 → Holds w (rounds bits) 512
   last w h k g =
-      h k g ∙ carry (239 + k)
+      h k g ∙ lies (239 + k)
       ∙ elim (decLt k 34) [
         | yes m ↦
             let e : 239 + k ≡ (512 + k) % 273 = omega arith in
@@ -146,11 +146,11 @@ pub length-sums : (bits : List Bool) → length (paritySums bits) ≡ 273
 unfolding paritySums
 length-sums bits = length-rowFrom (paritySum bits) 0 273
 
-pub sums-carry : (bits : List Bool) (a b c d e : ℕ) → SumsFrom a bits 0 → SumsFrom b bits 64 → SumsFrom c bits 128 → SumsFrom d bits 192 → SumsFrom e bits 256
-    → Carry (a ∷ b ∷ c ∷ d ∷ e % 2 ^ 17 ∷ []) (paritySums bits)
+pub sums-lie : (bits : List Bool) (a b c d e : ℕ) → SumsFrom a bits 0 → SumsFrom b bits 64 → SumsFrom c bits 128 → SumsFrom d bits 192 → SumsFrom e bits 256
+    → Lies (a ∷ b ∷ c ∷ d ∷ e % 2 ^ 17 ∷ []) (paritySums bits)
 unfolding paritySums
-sums-carry bits a b c d e ha hb hc hd he =
-    carried (a ∷ b ∷ c ∷ d ∷ e % 2 ^ 17 ∷ []) (paritySums bits)
+sums-lie bits a b c d e ha hb hc hd he =
+    lying (a ∷ b ∷ c ∷ d ∷ e % 2 ^ 17 ∷ []) (paritySums bits)
     (whole a 0 (lit< tt) ha, (whole b 64 (lit< tt) hb, (whole c 128 (lit< tt) hc, (whole d 192 (lit< tt) hd, (last, tt)))))
     (omega (arith, length-sums bits))
   where

@@ -17,7 +17,7 @@ use Rattle.gf2.specs.Poly.{bit, _⊕_, rowFrom, add}
 use Rattle.code.specs.Code.{ones}
 use Rattle.code.specs.Vote.{bitAt}
 use Rattle.words.specs.Bytes.{bitOf, bitIn, bitsOf}
-use Rattle.words.specs.Circle.{Holds, Carry}
+use Rattle.words.specs.Circle.{Holds, Lies}
 use Rattle.words.specs.Words.{FiveWords, rowOfWords, zeroWords}
 use Rattle.words.proofs.Bytes.{length-bitsOf, getD-bitsOf, bitOf-zero, bitOf-half, lowest-bit, bits-once, numbers-once}
 
@@ -83,9 +83,9 @@ held-at f (w ∷ ws) p j h l =
           (λ t. bitOf (getD (w ∷ ws) (q t) 0) (r t)) ∙ held-at f ws (p + 64) (j - 64) (h .1) (omega arith) ∙ ap f (omega arith)
     ]
 
--- A ROW THAT WORDS HOLD: it is carried, and of five words it is their row
-pub carried : (ws : List ℕ) (row : List Bool) → Held (bitAt row) 0 ws → length row ≤ 64 * length ws → Carry ws row
-carried ws row h l p =
+-- A ROW THAT WORDS HOLD lies in them, and of five words it is their row
+pub lying : (ws : List ℕ) (row : List Bool) → Held (bitAt row) 0 ws → length row ≤ 64 * length ws → Lies ws row
+lying ws row h l p =
     elim (decLt p (64 * length ws)) [
       | yes g ↦ held-at (bitAt row) ws 0 p h g ∙ ap (bitAt row) (zero-add p)
       | no g ↦ behind-last ws p (omega arith) ∙ sym (List·getD-eq-default row false {n = p} (omega arith))
@@ -97,8 +97,8 @@ length-row ws l = length-take-le 272 (bitsOf 64 ws) (omega (arith, length-bitsOf
 pub bit-row : (ws : List ℕ) (p : ℕ) → length ws ≡ 5 → p < 272 → bitAt (rowOfWords ws) p ≡ bitIn 64 ws p
 bit-row ws p l h = getD-take 272 (bitsOf 64 ws) p false h ∙ getD-bitsOf 64 ws p (omega arith)
 
-pub carry-five : (ws : List ℕ) (row : List Bool) → length ws ≡ 5 → ((i : ℕ) → getD ws i 0 < 2 ^ 64) → length row ≡ 272 → Carry ws row → FiveWords ws × (rowOfWords ws ≡ row)
-carry-five ws row l below long carry = (
+pub lies-five : (ws : List ℕ) (row : List Bool) → length ws ≡ 5 → ((i : ℕ) → getD ws i 0 < 2 ^ 64) → length row ≡ 272 → Lies ws row → FiveWords ws × (rowOfWords ws ≡ row)
+lies-five ws row l below long lies = (
   record { five = l; below = below; top = ap (drop 272) whole ∙ drop-at row (replicate 48 false) 272 long },
   ap (take 272) whole ∙ take-at row (replicate 48 false) 272 long,
 )
@@ -106,10 +106,10 @@ carry-five ws row l below long carry = (
     whole : bitsOf 64 ws ≡ row ++ replicate 48 false
     whole =
         ext-getD false (bitsOf 64 ws) (row ++ replicate 48 false) (length-bitsOf 64 ws ∙ omega (arith, length-append row (replicate 48 false)))
-        (λ j h. getD-bitsOf 64 ws j (omega (arith, length-bitsOf 64 ws)) ∙ carry j ∙ sym (bitAt-padded row 48 j))
+        (λ j h. getD-bitsOf 64 ws j (omega (arith, length-bitsOf 64 ws)) ∙ lies j ∙ sym (bitAt-padded row 48 j))
 
-pub five-carry : (ws : List ℕ) → FiveWords ws → Carry ws (rowOfWords ws)
-five-carry ws f p =
+pub five-lies : (ws : List ℕ) → FiveWords ws → Lies ws (rowOfWords ws)
+five-lies ws f p =
     elim (decLt p 272) [
       | yes h ↦ sym (bit-row ws p (f .five) h)
       | no h ↦ top p h ∙ sym (List·getD-eq-default (rowOfWords ws) false {n = p} (omega (arith, length-row ws (f .five))))

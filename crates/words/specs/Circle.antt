@@ -17,11 +17,11 @@ use Rattle.words.specs.Words.{FiveWords, rowOfWords}
 abbrev pub Holds : ℕ → (ℕ → Bool) → ℕ → Type 0
 Holds word f p = (k : ℕ) → k < 64 → bitOf word k ≡ f (p + k)
 
--- a row stands in words from the first place on, and nothing behind it
-abbrev pub Carry : List ℕ → List Bool → Type 0
-Carry words row = (p : ℕ) → bitIn 64 words p ≡ bitAt row p
+-- a row lies in words from the first place on, and nothing behind it
+abbrev pub Lies : List ℕ → List Bool → Type 0
+Lies words row = (p : ℕ) → bitIn 64 words p ≡ bitAt row p
 
--- a row of at most 273 places lies on the circle, and ten words go round it twice
+-- a row of at most 273 places stands on the circle, and ten words go round it twice
 abbrev pub Round : List ℕ → List Bool → Type 0
 Round words row = (length words ≡ 10) × ((p : ℕ) → p < 546 → bitIn 64 words p ≡ bitAt row (p % 273))
 

@@ -22,5 +22,5 @@ NoneNear row = (word : List Bool) → CodeWord word → distance row word ≤ mo
 
 -- what is found for a row: the code word that is near, or that none is, and then all words and the count are zero
 pub record Searched (row : List Bool) (found : Found) : Type 0 where
-  pub met : found .near ≡ true → FiveWords (found .word) × Near row (rowOfWords (found .word)) (found .count) (found .changed)
-  pub missed : found .near ≡ false → NoneNear row × (found .word ≡ zeroWords) × (found .count ≡ 0) × (found .changed ≡ zeroWords)
+  pub some : found .near ≡ true → FiveWords (found .word) × Near row (rowOfWords (found .word)) (found .count) (found .changed)
+  pub none : found .near ≡ false → NoneNear row × (found .word ≡ zeroWords) × (found .count ≡ 0) × (found .changed ≡ zeroWords)

@@ -1,4 +1,4 @@
--- Document 02, ticket 1: a row of 272 bits as five 64-bit words, in the form of its ticket 12. Assumes nothing.
+-- Document 02, tickets 1 and 3: a row of 272 bits as five 64-bit words, in the form of its ticket 12, from bytes and to bytes. Assumes nothing.
 use mathlib.Core.Path.{_≡_}
 use mathlib.Core.Bool.{Bool, false}
 use mathlib.Core.List.{List}
@@ -21,13 +21,13 @@ abbrev pub zeroWords : List ℕ
 zeroWords = replicate 5 0
 
 -- the words of 34 bytes; of another number of bytes, zero
-pub record Taken (bytes words : List ℕ) : Type 0 where
+pub record OfBytes (bytes words : List ℕ) : Type 0 where
   pub five : FiveWords words
   pub block : length bytes ≡ 34 → rowOfWords words ≡ rowOf bytes
   pub other : (length bytes ≡ 34 → ⊥) → words ≡ zeroWords
 
 -- the leading bytes of a row, as many as there is room for; more than 34 are left as they were
-pub record Given (words before after : List ℕ) : Type 0 where
+pub record FilledBytes (words before after : List ℕ) : Type 0 where
   pub long : length after ≡ length before
   pub block : length before ≤ 34 → rowOf after ≡ take (8 * length before) (rowOfWords words)
   pub other : 34 < length before → after ≡ before

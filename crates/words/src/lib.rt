@@ -6,7 +6,7 @@ ghost use Prim.Native.Nat.{ℕ, _+_, _*_, _<_, _≤_};
 ghost use lib.ListN.{length};
 ghost use Rattle.code.specs.Code.{difference};
 ghost use Rattle.words.specs.Bytes.{bitOf, bitIn};
-ghost use Rattle.words.specs.Words.{FiveWords, rowOfWords, zeroWords, Taken, Given};
+ghost use Rattle.words.specs.Words.{FiveWords, rowOfWords, zeroWords, OfBytes, FilledBytes};
 ghost use Rattle.words.specs.Near.{Searched};
 
 mod circle;
@@ -31,7 +31,7 @@ pub struct Found {
 
 // The words of the 34 bytes of a block. For another number of bytes they are zero.
 pub fn of_bytes(bytes: &[u8]) -> [u64; BLOCK_WORDS]
-    ensures { λ r. ⌜ Taken (now (bytes .entry)) r ⌝ }
+    ensures { λ r. ⌜ OfBytes (now (bytes .entry)) r ⌝ }
 {
     if bytes.len() != BLOCK_BYTES {
         return [0; BLOCK_WORDS];
@@ -47,7 +47,7 @@ pub fn of_bytes(bytes: &[u8]) -> [u64; BLOCK_WORDS]
 
 // Fills `out` with the leading bytes of a row. More than 34 bytes are left as they were.
 pub fn fill_bytes(row: [u64; BLOCK_WORDS], out: &mut [u8])
-    ensures { λ _. ⌜ Given row (now (out .entry)) (now (out .exit)) ⌝ }
+    ensures { λ _. ⌜ FilledBytes row (now (out .entry)) (now (out .exit)) ⌝ }
 {
     if BLOCK_BYTES < out.len() {
         return;
@@ -75,8 +75,8 @@ pub fn search(row: [u64; BLOCK_WORDS]) -> Found
         };
     }
     let sums = circle::sums(&round);
-    let votes = circle::twice(&sums);
-    let turned = votes::turn(&votes);
+    let meeting = circle::twice(&sums);
+    let turned = votes::turn(&meeting);
     if !turned.few {
         return missed();
     }
@@ -108,6 +108,7 @@ fn word_at(bytes: &[u8], at: usize, count: usize) -> u64
     word
 }
 
+// A function of its own, because a byte's bound is known where it is handed over.
 fn wide(byte: u8) -> u64
     ensures { λ r. ⌜ r ≡ byte ⌝ }
 {

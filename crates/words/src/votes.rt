@@ -57,11 +57,11 @@ pub(crate) fn turn(round: &[u64]) -> Turned
         changed[i] = turned;
         i += 1;
     }
-    let few = count as u8;
+    let told = count as u8;
     Turned {
         few: true,
         changed,
-        count: few,
+        count: told,
     }
 }
 

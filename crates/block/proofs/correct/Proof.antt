@@ -12,7 +12,7 @@ use Rattle.words.specs.Near.{Searched}
 use Rattle.words.proofs.Outcomes.{of-row}
 use Rattle.words.proofs.Words.{length-row}
 use Rattle.block.specs.Corrector.{Sized}
-use Rattle.block.proofs.Outcomes.{sized-so, not-sized}
+use Rattle.block.proofs.Lengths.{sized-so, not-sized}
 use borrow.Author.Needs.{needs}
 use Rattle.block.proofs.correct.Statement.{statement}
 use Rattle.block.proofs.correct.Tie as tie
@@ -46,7 +46,7 @@ returns-2 c =
     let m = c .missed2 .ensures in
     inr (inl (record {
       sized = sized s;
-      none = searched s .missed (not-true (s .search .result .near) (c .before .if2 .taken)) .0;
+      none = searched s .none (not-true (s .search .result .near) (c .before .if2 .taken)) .0;
       answers = m .0;
       counts = m .1;
       places = m .2;
@@ -64,7 +64,7 @@ returns-3 c =
     let f = c .before .before .fill-bytes in
     let e = c .before .before .before .before .before .before in
     let s = e .before .before in
-    let met = searched s .met (not-false (s .search .result .near) (e .if2 .left)) in
+    let met = searched s .some (not-false (s .search .result .near) (e .if2 .left)) in
     let room : length (s .before .before .before .before .before .args .out .now) ≤ 34 = omega (arith, sized s .output) in
     inr (inr (record {
       sized = sized s;

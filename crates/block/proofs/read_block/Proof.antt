@@ -11,7 +11,7 @@ use Rattle.words.specs.Words.{rowOfWords}
 use Rattle.words.specs.Near.{Searched}
 use Rattle.words.proofs.Outcomes.{of-row}
 use Rattle.block.specs.Corrector.{Sized}
-use Rattle.block.proofs.Outcomes.{sized-so, not-sized}
+use Rattle.block.proofs.Lengths.{sized-so, not-sized}
 use borrow.Author.Needs.{needs}
 use Rattle.block.proofs.read_block.Statement.{statement}
 use Rattle.block.proofs.read_block.Tie as tie
@@ -45,7 +45,7 @@ returns-2 c =
     let m = c .missed2 .ensures in
     inr (inl (record {
       sized = sized s;
-      none = searched s .missed (not-true (s .search .result .near) (c .before .if2 .taken)) .0;
+      none = searched s .none (not-true (s .search .result .near) (c .before .if2 .taken)) .0;
       answers = m .0;
       counts = m .1;
       places = m .2;
@@ -55,7 +55,7 @@ returns-2 c =
 holds-requires : tie.Need-holds-requires
 holds-requires c κs =
     let e = c .before .before .before in
-    searched (e .before .before) .met (not-false (e .before .before .search .result .near) (e .if2 .left)) .0
+    searched (e .before .before) .some (not-false (e .before .before .search .result .near) (e .if2 .left)) .0
 
 returns-3 : tie.Need-returns-3
 returns-3 c =
@@ -65,7 +65,7 @@ returns-3 c =
     inr (inr (inl (record {
       sized = sized s;
       word = rowOfWords (s .search .result .word);
-      found = searched s .met (not-false (s .search .result .near) (e .if2 .left)) .1;
+      found = searched s .some (not-false (s .search .result .near) (e .if2 .left)) .1;
       wrong = λ r. false≢true (sym (not-true (h .result) (c .if3 .taken)) ∙ h .ensures .1 r);
       answers = refl;
       same = refl;
@@ -87,7 +87,7 @@ returns-4 c =
     inr (inr (inr (record {
       sized = sized s;
       word = rowOfWords (s .search .result .word);
-      found = searched s .met (not-false (s .search .result .near) (e .if2 .left)) .1;
+      found = searched s .some (not-false (s .search .result .near) (e .if2 .left)) .1;
       right = i .before .holds .ensures .0 (not-false (i .before .holds .result) (i .if3 .left));
       answers = refl;
       long = f .ensures .long ∙ sized s .output;

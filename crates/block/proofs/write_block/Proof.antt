@@ -1,6 +1,6 @@
 -- `block::write_block`: the lengths; then the row of the information, of its check, and of the parity of both. Assumes nothing.
 use Rattle.block.specs.Corrector.{Sized}
-use Rattle.block.proofs.Outcomes.{sized-so, not-sized}
+use Rattle.block.proofs.Lengths.{sized-so, not-sized}
 use Rattle.block.proofs.Blocks.{check-room, parity-room, block-row}
 use Prim.Native.Nat.{_*_}
 use lib.ListN.{length}

@@ -5,8 +5,8 @@ use mathlib.Core.List.{[], _∷_}
 use Prim.Native.Nat.{ℕ, _%_, _^_, _<_}
 use lib.ListN.{getD}
 use Rattle.words.specs.Words.{rowOfWords}
-use Rattle.words.proofs.Words.{carry-five, five-below, length-row}
-use Rattle.words.proofs.Outcomes.{given-carry}
+use Rattle.words.proofs.Words.{lies-five, five-below, length-row}
+use Rattle.words.proofs.Outcomes.{given-lies}
 use borrow.Author.Needs.{needs}
 use Rattle.words.proofs.kept.Statement.{statement}
 use Rattle.words.proofs.kept.Tie as tie
@@ -32,8 +32,8 @@ returns c =
     let ws = e .before .args .words .now in
     let small : (i : ℕ) → getD ws i 0 < 2 ^ 64 = λ i. omega (arith, e .shared-slice-known .given i) in
     let last : getD ws 4 0 % 2 ^ 16 < 2 ^ 64 = omega arith in
-    carry-five (getD ws 0 0 ∷ getD ws 1 0 ∷ getD ws 2 0 ∷ getD ws 3 0 ∷ getD ws 4 0 % 2 ^ 16 ∷ []) (rowOfWords ws) refl
-    (five-below (getD ws 0 0) (getD ws 1 0) (getD ws 2 0) (getD ws 3 0) (getD ws 4 0 % 2 ^ 16) (small 0) (small 1) (small 2) (small 3) last) (length-row ws (e .before .pre)) (given-carry ws (e .before .pre))
+    lies-five (getD ws 0 0 ∷ getD ws 1 0 ∷ getD ws 2 0 ∷ getD ws 3 0 ∷ getD ws 4 0 % 2 ^ 16 ∷ []) (rowOfWords ws) refl
+    (five-below (getD ws 0 0) (getD ws 1 0) (getD ws 2 0) (getD ws 3 0) (getD ws 4 0 % 2 ^ 16) (small 0) (small 1) (small 2) (small 3) last) (length-row ws (e .before .pre)) (given-lies ws (e .before .pre))
 
 pub kept-spec : {M : Type 1} → statement M
 kept-spec =

@@ -7,8 +7,8 @@ use lib.ListN.{length}
 use Rattle.words.specs.Bytes.{rowOf}
 use Rattle.words.specs.Words.{FiveWords, rowOfWords}
 use Rattle.words.proofs.Bytes.{length-bitsOf}
-use Rattle.words.proofs.Words.{zero-five, carry-five, five-below}
-use Rattle.words.proofs.Outcomes.{block-carry}
+use Rattle.words.proofs.Words.{zero-five, lies-five, five-below}
+use Rattle.words.proofs.Outcomes.{block-lies}
 use borrow.Author.Needs.{needs}
 use Rattle.words.proofs.of_bytes.Statement.{statement}
 use Rattle.words.proofs.of_bytes.Tie as tie
@@ -42,9 +42,9 @@ returns-2 c =
     let long : length bytes ≡ 34 = omega arith in
     let words : List ℕ = w0 .result ∷ w1 .result ∷ w2 .result ∷ w3 .result ∷ w4 .result ∷ [] in
     let five : FiveWords words × (rowOfWords words ≡ rowOf bytes) =
-    carry-five words (rowOf bytes) refl (five-below (w0 .result) (w1 .result) (w2 .result) (w3 .result) (w4 .result) (omega (arith, w0 .ok)) (omega (arith, w1 .ok)) (omega (arith, w2 .ok)) (omega (arith, w3 .ok)) (omega (arith, w4 .ok)))
+    lies-five words (rowOf bytes) refl (five-below (w0 .result) (w1 .result) (w2 .result) (w3 .result) (w4 .result) (omega (arith, w0 .ok)) (omega (arith, w1 .ok)) (omega (arith, w2 .ok)) (omega (arith, w3 .ok)) (omega (arith, w4 .ok)))
     (length-bitsOf 8 bytes ∙ omega arith)
-    (block-carry bytes (w0 .result) (w1 .result) (w2 .result) (w3 .result) (w4 .result) long (w0 .ensures .0) (w1 .ensures .0) (w2 .ensures .0) (w3 .ensures .0) (w4 .ensures .0) (w4 .ensures .1)) in
+    (block-lies bytes (w0 .result) (w1 .result) (w2 .result) (w3 .result) (w4 .result) long (w0 .ensures .0) (w1 .ensures .0) (w2 .ensures .0) (w3 .ensures .0) (w4 .ensures .0) (w4 .ensures .1)) in
     record { five = five .0; block = λ l. five .1; other = λ n. absurd (n long) }
 
 pub of-bytes-spec : {M : Type 1} → statement M

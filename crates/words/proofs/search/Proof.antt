@@ -10,7 +10,7 @@ use Rattle.code.specs.Code.{CodeWord}
 use Rattle.code.specs.Vote.{paritySums}
 use Rattle.words.specs.Words.{FiveWords, rowOfWords}
 use Rattle.words.specs.Circle.{Voted}
-use Rattle.words.proofs.Words.{five-carry, length-row}
+use Rattle.words.proofs.Words.{five-lies, length-row}
 use Rattle.words.proofs.Rounds.{length-sums}
 use Rattle.words.proofs.Outcomes.{found-clean, found-voted, found-none, many-none, voted-none, voted-word, of-row}
 use borrow.Author.Needs.{needs}
@@ -36,7 +36,7 @@ seen c =
     let row = rowOfWords (kept-at c) in
     c .turn .ensures (paritySums row)
     (c .before .before .twice2 .ensures (paritySums row) (omega (arith, length-sums row))
-    (s .sums .ensures row (s .before .before .before .before .before .twice .ensures row (omega (arith, long-at c)) (five-carry (kept-at c) (kept-five c)))))
+    (s .sums .ensures row (s .before .before .before .before .before .twice .ensures row (omega (arith, long-at c)) (five-lies (kept-at c) (kept-five c)))))
 
 slice-aggregate-kept : tie.Need-slice-aggregate-kept
 slice-aggregate-kept c = search needs
@@ -62,7 +62,7 @@ returns c =
     let row = rowOfWords (k .result) in
     let long : length row ≡ 272 = length-row (k .result) (k .ensures .0 .five) in
     of-row (k .ensures .1) (found-clean row long (k .result) (k .ensures .0) refl
-    (c .before .is-even .ensures row long (c .before .before .before .twice .ensures row (omega arith) (five-carry (k .result) (k .ensures .0))) .0 (c .if1 .taken)))
+    (c .before .is-even .ensures row long (c .before .before .before .twice .ensures row (omega arith) (five-lies (k .result) (k .ensures .0))) .0 (c .if1 .taken)))
 
 slice-aggregate-sums : tie.Need-slice-aggregate-sums
 slice-aggregate-sums c = search needs
@@ -124,7 +124,7 @@ returns-3 c =
     let s = w .sum-of in
     of-row (kept-same t) (found-voted row (long-at t) (t .turn .result .count) (t .turn .result .changed) (kept-at t) (s .result) refl (few .0) (few .1) (few .2) (few .3) (s .ensures)
     (c .before .is-even2 .ensures (rowOfWords (s .result)) (length-row (s .result) (s .ensures .0 .five))
-    (c .before .before .before .twice3 .ensures (rowOfWords (s .result)) (omega (arith, length-row (s .result) (s .ensures .0 .five))) (five-carry (s .result) (s .ensures .0))) .0 (c .if3 .taken)))
+    (c .before .before .before .twice3 .ensures (rowOfWords (s .result)) (omega (arith, length-row (s .result) (s .ensures .0 .five))) (five-lies (s .result) (s .ensures .0))) .0 (c .if3 .taken)))
 
 missed-requires-2 : tie.Need-missed-requires-2
 missed-requires-2 c κs = search needs
@@ -139,7 +139,7 @@ returns-4 c =
     let is = voted-word row (long-at t) (t .turn .result .changed) (kept-at t) (s .result) refl (few .1) (s .ensures .1) in
     of-row (kept-same t) (found-none row (long-at t) (c .missed2 .result) (c .missed2 .ensures)
     (voted-none row (long-at t) (λ code. false≢true (sym (c .before .if3 .left) ∙ c .before .before .is-even2 .ensures (rowOfWords (s .result)) (length-row (s .result) (s .ensures .0 .five))
-    (c .before .before .before .before .twice3 .ensures (rowOfWords (s .result)) (omega (arith, length-row (s .result) (s .ensures .0 .five))) (five-carry (s .result) (s .ensures .0))) .1 (subst CodeWord (sym is) code)))))
+    (c .before .before .before .before .twice3 .ensures (rowOfWords (s .result)) (omega (arith, length-row (s .result) (s .ensures .0 .five))) (five-lies (s .result) (s .ensures .0))) .1 (subst CodeWord (sym is) code)))))
 
 pub search-spec : {M : Type 1} → statement M
 search-spec =

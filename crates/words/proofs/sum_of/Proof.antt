@@ -7,8 +7,8 @@ use lib.ListN.{getD}
 use Rattle.gf2.proofs.Remainders.{length-add}
 use Rattle.code.specs.Code.{difference}
 use Rattle.words.specs.Words.{rowOfWords}
-use Rattle.words.proofs.Words.{carry-five, five-below, length-row}
-use Rattle.words.proofs.Outcomes.{sum-carry}
+use Rattle.words.proofs.Words.{lies-five, five-below, length-row}
+use Rattle.words.proofs.Outcomes.{sum-lies}
 use borrow.Author.Needs.{needs}
 use Rattle.words.proofs.sum_of.Statement.{statement}
 use Rattle.words.proofs.sum_of.Tie as tie
@@ -50,9 +50,9 @@ returns c =
     let ys = e .args .changed .now in
     let word : ℕ → ℕ = λ i. bitXor (getD xs i 0) (getD ys i 0) in
     let small : (i : ℕ) → word i < 2 ^ 64 = λ i. xor-lt 64 (getD xs i 0) (getD ys i 0) (e .pre .0 .below i) (e .pre .1 .below i) in
-    carry-five (word 0 ∷ word 1 ∷ word 2 ∷ word 3 ∷ word 4 ∷ []) (difference (rowOfWords xs) (rowOfWords ys)) refl
+    lies-five (word 0 ∷ word 1 ∷ word 2 ∷ word 3 ∷ word 4 ∷ []) (difference (rowOfWords xs) (rowOfWords ys)) refl
     (five-below (word 0) (word 1) (word 2) (word 3) (word 4) (small 0) (small 1) (small 2) (small 3) (small 4))
-    (length-add (rowOfWords xs) (rowOfWords ys) ∙ length-row ys (e .pre .1 .five)) (sum-carry xs ys (e .pre .0) (e .pre .1))
+    (length-add (rowOfWords xs) (rowOfWords ys) ∙ length-row ys (e .pre .1 .five)) (sum-lies xs ys (e .pre .0) (e .pre .1))
 
 pub sum-of-spec : {M : Type 1} → statement M
 sum-of-spec =

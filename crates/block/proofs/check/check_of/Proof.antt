@@ -1,5 +1,5 @@
 -- `block::check::check_of`: each quotient is taken of what the one before it left. Assumes nothing.
-use Rattle.block.proofs.Folds.{check-made}
+use Rattle.block.proofs.Quotients.{check-made}
 use mathlib.Core.Path.{refl}
 use borrow.Author.Needs.{needs}
 use Rattle.block.proofs.check.check_of.Statement.{statement}

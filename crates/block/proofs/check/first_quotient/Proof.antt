@@ -1,6 +1,6 @@
 -- `block::check::first_quotient`: the shifts that the divisor's terms ask. Assumes nothing.
 use mathlib.Core.Path.{refl}
-use Rattle.block.specs.Folds.{spread, firstQuotient}
+use Rattle.block.specs.Quotients.{spread, firstQuotient}
 use Rattle.block.proofs.check.first_quotient.Statement.{statement}
 use Rattle.block.proofs.check.first_quotient.Tie as tie
 

@@ -1,5 +1,5 @@
 -- `block::check::holds`: the number of the 14 places is that of the check. Assumes nothing.
-use Rattle.block.proofs.Folds.{check-right}
+use Rattle.block.proofs.Quotients.{check-right}
 use borrow.Author.Tests.{eqb-true, eq-eqb}
 use borrow.Author.Needs.{needs}
 use Rattle.block.proofs.check.holds.Statement.{statement}

@@ -1,6 +1,6 @@
 -- `block::check::last_quotient`: the shifts that the divisor's terms ask. Assumes nothing.
 use mathlib.Core.Path.{refl}
-use Rattle.block.specs.Folds.{spread, lastQuotient}
+use Rattle.block.specs.Quotients.{spread, lastQuotient}
 use Rattle.block.proofs.check.last_quotient.Statement.{statement}
 use Rattle.block.proofs.check.last_quotient.Tie as tie
 

@@ -1,6 +1,6 @@
 -- `block::check::second_quotient`: the shifts that the divisor's terms ask. Assumes nothing.
 use mathlib.Core.Path.{refl}
-use Rattle.block.specs.Folds.{spread, secondQuotient}
+use Rattle.block.specs.Quotients.{spread, secondQuotient}
 use Rattle.block.proofs.check.second_quotient.Statement.{statement}
 use Rattle.block.proofs.check.second_quotient.Tie as tie
 

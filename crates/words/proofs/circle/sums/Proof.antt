@@ -1,5 +1,5 @@
 -- `words::circle::sums`: five words of sums. Assumes nothing.
-use Rattle.words.proofs.Rounds.{sums-carry}
+use Rattle.words.proofs.Rounds.{sums-lie}
 use borrow.Author.Needs.{needs}
 use Rattle.words.proofs.circle.sums.Statement.{statement}
 use Rattle.words.proofs.circle.sums.Tie as tie
@@ -22,7 +22,7 @@ sum-word-requires-5 c κs = search needs
 returns : tie.Need-returns
 returns c =
     let s = c .before .before .before .before in
-    λ bits twice. sums-carry bits (s .sum-word .result) (c .before .before .before .sum-word2 .result) (c .before .before .sum-word3 .result) (c .before .sum-word4 .result) (c .sum-word5 .result)
+    λ bits twice. sums-lie bits (s .sum-word .result) (c .before .before .before .sum-word2 .result) (c .before .before .sum-word3 .result) (c .before .sum-word4 .result) (c .sum-word5 .result)
     (s .sum-word .ensures bits twice) (c .before .before .before .sum-word2 .ensures bits twice) (c .before .before .sum-word3 .ensures bits twice) (c .before .sum-word4 .ensures bits twice) (c .sum-word5 .ensures bits twice)
 
 pub sums-spec : {M : Type 1} → statement M

@@ -38,7 +38,7 @@ returns : tie.Need-returns
 returns c =
     let p = c .before .before .before in
     let row = p .before .before .before .before .before .before .before .before .args .row .now in
-    λ bits l carry. laid row bits l carry (p .part .result) (c .before .before .part2 .result) (c .before .part3 .result) (c .part4 .result)
+    λ bits l lies. laid row bits l lies (p .part .result) (c .before .before .part2 .result) (c .before .part3 .result) (c .part4 .result)
     (p .part .ensures) (c .before .before .part2 .ensures) (c .before .part3 .ensures) (c .part4 .ensures)
 
 pub twice-spec : {M : Type 1} → statement M

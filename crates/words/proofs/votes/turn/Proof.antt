@@ -15,8 +15,8 @@ use Rattle.code.specs.Code.{ones}
 use Rattle.code.specs.Vote.{bitAt}
 use Rattle.words.specs.Bytes.{bitIn}
 use Rattle.words.specs.Words.{FiveWords, rowOfWords}
-use Rattle.words.specs.Circle.{Holds, Carry, Round, turned}
-use Rattle.words.proofs.Words.{ones-held, stored-below, stored-front, stored-behind, none-stored, carry-five, zero-five}
+use Rattle.words.specs.Circle.{Holds, Lies, Round, turned}
+use Rattle.words.proofs.Words.{ones-held, stored-below, stored-front, stored-behind, none-stored, lies-five, zero-five}
 use Rattle.words.proofs.Counts.{turned-held, length-turned}
 use Rattle.words.proofs.votes.turn.Statement.{statement}
 use Rattle.words.proofs.votes.turn.Tie as tie
@@ -92,18 +92,18 @@ loop-again c =
       ),
     )
 
-cast-few : tie.Need-cast-few Inv-loop μ-loop
-cast-few c = search needs
+cast-told : tie.Need-cast-told Inv-loop μ-loop
+cast-told c = search needs
 
 returns-2 : tie.Need-returns-2 Inv-loop μ-loop
 returns-2 c =
     let h = c .before .loop in
-    λ sums twice. let carry : Carry (h .changed) (turned sums) =
+    λ sums twice. let lies : Lies (h .changed) (turned sums) =
     λ p. elim (decLt p 320) [
       | yes g ↦ h .inv .5 sums twice .1 p (omega arith)
       | no g ↦ h .inv .4 p (omega arith) ∙ sym (List·getD-eq-default (turned sums) false {n = p} (omega (arith, length-turned sums)))
     ] in
-    let five : FiveWords (h .changed) × (rowOfWords (h .changed) ≡ turned sums) = carry-five (h .changed) (turned sums) (h .inv .2) (h .inv .3) (length-turned sums) carry in
+    let five : FiveWords (h .changed) × (rowOfWords (h .changed) ≡ turned sums) = lies-five (h .changed) (turned sums) (h .inv .2) (h .inv .3) (length-turned sums) lies in
     let all : h .count ≡ ones (turned sums) =
     omega (arith, h .inv .5 sums twice .0, ap ones (drop-of-length-le (turned sums) {i = 64 * h .i} (omega (arith, length-turned sums)))) in
     record { few = λ z. (five .0, five .1, all, omega (arith, h .inv .1, all)); many = λ z. absurd (false≢true (sym z)) }
@@ -125,5 +125,5 @@ turn-spec =
     add-i
     loop-less
     loop-again
-    cast-few
+    cast-told
     returns-2)

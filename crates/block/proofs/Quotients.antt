@@ -21,7 +21,7 @@ use Rattle.words.proofs.Bytes.{bitOf-packed, bits-once}
 use Rattle.words.proofs.Shifts.{bitOf-shr, bitOf-mod}
 use Rattle.words.proofs.Words.{bit-in, length-row, bit-row}
 use Rattle.block.specs.Blocks.{checkDivisor, CheckRight}
-use Rattle.block.specs.Folds.{spread, firstQuotient, secondQuotient, lastQuotient}
+use Rattle.block.specs.Quotients.{spread, firstQuotient, secondQuotient, lastQuotient}
 use Rattle.block.proofs.Checks.{check-length}
 use Rattle.block.proofs.Linear.{Linear, whole, down, low, up, plus, spread-linear, Brings, single-places}
 
