@@ -18,6 +18,9 @@ pub bytes-each : (xs : List ℕ) → ((k : ℕ) → getD xs k 0 < 256) → areBy
 bytes-each [] f = refl
 bytes-each (x ∷ xs) f = rw (lt-ltb x 256 (f 0), bytes-each xs (λ k. f (suc k)))
 
+pub byte-one : (x : ℕ) → x < 256 → areBytes (x ∷ []) ≡ true
+byte-one x h = rw (lt-ltb x 256 h)
+
 -- lists of bytes, one behind the other, and the parts of one
 pub bytes-append : (xs ys : List ℕ) → areBytes (xs ++ ys) ≡ (areBytes xs && areBytes ys)
 bytes-append [] ys = refl

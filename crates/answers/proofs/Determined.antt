@@ -52,3 +52,7 @@ paper-once (Refused a) (Refused b) e = let n : numberOf a ≡ numberOf b = cc in
 -- a refusal is no acceptance
 pub refused-accepted : (n : ℕ) → refused n ≡ accepted → ⊥
 refused-accepted n e = let z : _≡_ {A = ℕ} 0 1 = cc in omega arith
+
+-- and of two refusals the paper tells the numbers
+pub refused-once : (m n : ℕ) → refused m ≡ refused n → m ≡ n
+refused-once m n e = cc

@@ -5,17 +5,10 @@ use mathlib.Core.Path.{_≡_}
 use mathlib.Core.Bool.{true}
 use mathlib.Core.List.{List}
 use lib.Pow.{areBytes}
-use Rattle.log.specs.declared.Reader.{Reader}
-use Rattle.log.specs.Reader.{ToldLog, freshReader, run, readOf}
+use Rattle.log.specs.Reader.{ToldLog, readOf}
 
 -- what is told of the bytes, read as a log
 pub record Came (t : ToldLog) : Type 0 where
   pub bytes : List ℕ
   pub small : areBytes bytes ≡ true
   pub read : readOf bytes ≡ t
-
--- the bytes so far lead to this reader
-pub record Reached (s : Reader) : Type 0 where
-  pub bytes : List ℕ
-  pub small : areBytes bytes ≡ true
-  pub led : run freshReader bytes ≡ s

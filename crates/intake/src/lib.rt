@@ -1,6 +1,7 @@
 // A log from standard input, for the programs that report on one (document 01, "The log and its report").
 ghost use Rattle.log.specs.Reader.{toldLog};
-ghost use Rattle.intake.specs.Intake.{Reached, Came};
+ghost use Rattle.log.specs.Pieces.{Reached};
+ghost use Rattle.intake.specs.Intake.{Came};
 use libc::STDIN_FILENO;
 use log::LogRead;
 use log::Reader;

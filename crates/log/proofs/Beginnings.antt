@@ -10,15 +10,17 @@ use borrow.Author.Tests.{eqb-true, eqb-false, leb-true, le-leb, ne-eqb}
 use Rattle.band.specs.Band.{isChannel}
 use Rattle.band.proofs.Laws.{in-range}
 use Rattle.log.specs.declared.Counts.{Counts}
-use Rattle.log.specs.declared.Phase.the-variants.{Refused}
+use Rattle.log.specs.declared.Reader.{Reader}
+use Rattle.log.specs.declared.Phase.the-variants.{Open, Refused}
 use Rattle.log.specs.Log.{firstLine, slotLine, slotLines, logText, allOutcomes, counted, countsFrom, tuned, last, channelUpTo, isNext, judged}
-use Rattle.log.specs.Reader.{between, afterLine, isPlain}
+use Rattle.log.specs.Reader.{between, freshReader, afterLine, run, isPlain}
 use Rattle.log.specs.Beginning.{Beginning, nothing, lines, textOf, isGood, countsOf, GoodLine}
 use Rattle.text.proofs.Laws.{same-true}
 use Rattle.log.proofs.Lists.{by-cases}
 use Rattle.log.proofs.Lines.{channel-line}
 use Rattle.log.proofs.Outcomes.{next, channel-most}
-use Rattle.log.proofs.Written.{channel-found, first-plain, slot-plain, next-is, all-snoc, counts-channel}
+use Rattle.log.proofs.Runs.{run-append}
+use Rattle.log.proofs.Written.{channel-found, first-plain, slot-plain, next-is, all-snoc, counts-channel, written-run}
 
 -- what `isGood` tests
 pub record Good (n : ℕ) (os : List ℕ) : Type 0 where
@@ -47,6 +49,14 @@ slots-are n os = slots-more os (tuned n) ∙ omega arith
 
 pub tuned-some : (n : ℕ) (os : List ℕ) → isChannel n ≡ true → eqb (countsFrom (tuned n) os .channel) 0 ≡ false
 tuned-some n os h = ap (λ (k : ℕ). eqb k 0) (counts-channel os (tuned n)) ∙ ne-eqb n 0 (λ z. omega (arith, in-range n h .0))
+
+-- ---- where it leads
+
+pub begin-run : (b : Beginning) (rest : List ℕ) → isGood b ≡ true → run freshReader (textOf b ++ rest) ≡ run (between Open (countsOf b)) rest
+begin-run nothing rest g = refl
+begin-run (lines n os) rest g =
+    let h = good n os g in
+    run-append freshReader (logText n os) rest ∙ ap (λ (s : Reader). run s rest) (written-run n os (h .band) (h .all) (h .few))
 
 -- ---- the line that comes next
 

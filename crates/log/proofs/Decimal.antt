@@ -7,7 +7,9 @@ use native.Mathlib.Omega.{arith}
 use native.Mathlib.Nat.{pow-suc, div-lt-iff-lt-mul, div-add-mod'}
 use lib.ListN.{length, length-append}
 use lib.Dec.{ltb}
+use lib.Pow.{areBytes}
 use borrow.Author.Tests.{ltb-true, ltb-false, lt-ltb, le-ltb}
+use Rattle.answers.proofs.Bytes.{byte-one, bytes-append}
 use Rattle.log.specs.Decimal.{decimalUpTo, decimal, numberFrom}
 use Rattle.log.specs.Reader.{isPlain}
 use Rattle.log.proofs.Lists.{cond-with}
@@ -89,6 +91,17 @@ decimal-value n h = spelled-value 19 n h
 
 pub decimal-once : (m n : ℕ) → m < 10 ^ 20 → n < 10 ^ 20 → decimal m ≡ decimal n → m ≡ n
 decimal-once m n h k e = sym (decimal-value m h) ∙ ap (numberFrom 0) e ∙ decimal-value n k
+
+-- a numeral is bytes
+spelled-bytes : (f n : ℕ) → n < 10 ^ suc f → areBytes (decimalUpTo f n) ≡ true
+spelled-bytes zero n h = rw (spelled-few 0 n h) (byte-one (48 + n) (omega arith))
+spelled-bytes (suc f) n h =
+    by-ten _ n (λ k. rw (spelled-few (suc f) n k) (byte-one (48 + n) (omega arith)))
+    (λ k. rw (spelled-more f n k, bytes-append, spelled-bytes f (n / 10) (tenth f n h)) (byte-one (48 + n % 10) (omega arith)))
+
+pub decimal-bytes : (n : ℕ) → n < 10 ^ 20 → areBytes (decimal n) ≡ true
+unfolding decimal
+decimal-bytes n h = spelled-bytes 19 n h
 
 -- what each digit has, and two texts together
 spelled-with : (P : List ℕ → Type 0) → ((d : ℕ) → P ((48 + d) ∷ [])) → ((a b : List ℕ) → P a → P b → P (a ++ b)) → (f n : ℕ) → P (decimalUpTo f n)

@@ -102,27 +102,25 @@ less c h s =
     (λ i. less-dirty c (omega (arith, leb-false 1 (c .clean) i)) r s))))
 
 -- outcomes that give the counts
-record Gives (c : Counts) (n : ℕ) : Type 0 where
-  outcomes : List ℕ
-  all : allOutcomes outcomes ≡ true
-  long : length outcomes ≡ n
-  counts : countsFrom (tuned (c .channel)) outcomes ≡ c
+pub record Gives (c : Counts) (n : ℕ) : Type 0 where
+  pub outcomes : List ℕ
+  pub all : allOutcomes outcomes ≡ true
+  pub long : length outcomes ≡ n
+  pub counts : countsFrom (tuned (c .channel)) outcomes ≡ c
 
 counts-snoc : (os : List ℕ) (o : ℕ) (c : Counts) → countsFrom c (os ++ (o ∷ [])) ≡ counted (countsFrom c os) o
 unfolding countsFrom
 counts-snoc [] o c = refl
 counts-snoc (x ∷ os) o c = counts-snoc os o (counted c x)
 
+pub no-slots : (c : Counts) → c .slots ≡ 0 → Sound c → tuned (c .channel) ≡ c
+no-slots c e s =
+    same-counts (tuned (c .channel)) c refl (omega arith) (omega (arith, s .each)) (omega (arith, s .each, s .clean)) (omega (arith, s .each, s .most))
+    (omega (arith, s .each)) (omega (arith, s .each)) (omega (arith, s .each))
+
 no-outcomes : (c : Counts) → c .slots ≡ 0 → Sound c → Gives c 0
 unfolding allOutcomes countsFrom
-no-outcomes c e s =
-    record {
-      outcomes = [];
-      all = refl;
-      long = refl;
-      counts = same-counts (tuned (c .channel)) c refl (omega arith) (omega (arith, s .each)) (omega (arith, s .each, s .clean))
-          (omega (arith, s .each, s .most)) (omega (arith, s .each)) (omega (arith, s .each)) (omega (arith, s .each));
-    }
+no-outcomes c e s = record { outcomes = []; all = refl; long = refl; counts = no-slots c e s }
 
 gives-more : (c : Counts) (n : ℕ) (l : Less c) → Gives (l .rest) n → Gives c (suc n)
 gives-more c n l g =
@@ -136,7 +134,7 @@ gives-more c n l g =
           ∙ l .back;
     }
 
-outcomes-of : (n : ℕ) (c : Counts) → c .slots ≡ n → Sound c → Gives c n
+pub outcomes-of : (n : ℕ) (c : Counts) → c .slots ≡ n → Sound c → Gives c n
 outcomes-of zero c e s = no-outcomes c e s
 outcomes-of (suc n) c e s =
     let l = less c (omega arith) s in

@@ -9,9 +9,12 @@ pub mod Goes
 pub mod Written
 pub mod Slots
 pub mod Beginnings
+pub mod Bytes
 pub mod Refused
 pub mod Parted
 pub mod Accepted
 pub mod Exact
 pub mod Pieces
+pub mod Later
+pub mod Reached
 pub mod Determined

@@ -5,7 +5,7 @@ use mathlib.Core.Bool.{Bool, true, false, _&&_, and-true, and-false, and-assoc}
 use mathlib.Core.List.{List, [], _∷_, _++_}
 use native.Mathlib.Omega.{arith}
 use mir.Val.{boolByte}
-use lib.ListN.{length, getD, take}
+use lib.ListN.{length, getD, take, drop}
 use lib.Seq.{take-suc}
 use lib.Dec.{eqb}
 pub use Rattle.answers.proofs.Rules.{cond-with}
@@ -54,3 +54,12 @@ pub take-last : (l : List ℕ) (i : ℕ) → 1 ≤ i → i ≤ length l → take
 take-last l i h k =
     let e : i ≡ suc (i - 1) = omega arith in
     ap (λ (j : ℕ). take j l) e ∙ take-suc l (i - 1) 0 (omega arith)
+
+-- of two lists that begin one list the shorter begins the longer
+pub prefix : (a b c d : List ℕ) → a ++ b ≡ c ++ d → length a ≤ length c → (mid : List ℕ) × (c ≡ a ++ mid)
+prefix [] b c d e h = (c, refl)
+prefix (x ∷ a) b [] d e h = absurd (omega arith)
+prefix (x ∷ a) b (y ∷ c) d e h =
+    let p : y ≡ x = sym (ap (λ (l : List ℕ). getD l 0 0) e) in
+    let r = prefix a b c d (ap (drop 1) e) (omega arith) in
+    (r .0, λ i. p i ∷ r .1 i)

@@ -10,14 +10,12 @@ use lib.Dec.{leb}
 use borrow.Author.Tests.{leb-true, leb-false, ne-eqb}
 use Rattle.log.specs.declared.Reader.{Reader}
 use Rattle.log.specs.declared.Phase.the-variants.{Open, Refused}
-use Rattle.log.specs.Log.{logText}
-use Rattle.log.specs.Reader.{ToldLog, between, freshReader, run, afterEnd, wholeOf, readOf, isPlain}
+use Rattle.log.specs.Reader.{ToldLog, between, run, afterEnd, wholeOf, readOf, isPlain}
 use Rattle.log.specs.Beginning.{Beginning, nothing, lines, textOf, isGood, countsOf, GoodLine, Stops, refusedAfter, toldOf}
 use Rattle.log.proofs.Lists.{by-cases}
 use Rattle.log.proofs.Plain.{lines-with}
-use Rattle.log.proofs.Runs.{run-append, run-hold, run-shut, line-run, over-run, heldOf}
-use Rattle.log.proofs.Written.{written-run}
-use Rattle.log.proofs.Beginnings.{good, slots-are, tuned-some, next-line}
+use Rattle.log.proofs.Runs.{run-hold, run-shut, line-run, over-run, heldOf}
+use Rattle.log.proofs.Beginnings.{good, slots-are, tuned-some, begin-run, next-line}
 
 -- the end of a reader, told
 abbrev ends : Reader → ToldLog
@@ -26,10 +24,7 @@ ends s = wholeOf (afterEnd s)
 after-told : (b : Beginning) (rest : List ℕ) (s : Reader) → isGood b ≡ true → run (between Open (countsOf b)) rest ≡ s
     → readOf (textOf b ++ rest) ≡ ends s
 unfolding readOf
-after-told nothing rest s g e = ap ends e
-after-told (lines n os) rest s g e =
-    let h = good n os g in
-    ap ends (run-append freshReader (logText n os) rest ∙ ap (λ (r : Reader). run r rest) (written-run n os (h .band) (h .all) (h .few)) ∙ e)
+after-told b rest s g e = ap ends (begin-run b rest g ∙ e)
 
 shut-told : (b : Beginning) (rest : List ℕ) → isGood b ≡ true → run (between Open (countsOf b)) rest ≡ between Refused (countsOf b)
     → readOf (textOf b ++ rest) ≡ refusedAfter b

@@ -23,7 +23,7 @@ use Rattle.log.proofs.Plain.{plain-none, plain-append, plain-one, plain
 use Rattle.log.proofs.Outcomes.{judged-before}
 
 -- the line so far
-abbrev lineOf : Reader → List ℕ
+abbrev pub lineOf : Reader → List ℕ
 lineOf s = take (s .length) (s .held)
 
 pub run-none : (s : Reader) → run s [] ≡ s
@@ -76,7 +76,7 @@ held-line : (c : Counts) (l : List ℕ) → lineOf (heldOf c l) ≡ l
 held-line c l = take-append-seam l (drop (length l) zeros)
 
 -- and judged at its line feed
-step-feed : (c : Counts) (l : List ℕ) → afterByte (heldOf c l) 10 ≡ afterLine (judged c l)
+pub step-feed : (c : Counts) (l : List ℕ) → afterByte (heldOf c l) 10 ≡ afterLine (judged c l)
 unfolding afterByte openStep
 step-feed c l = ap (λ (k : List ℕ). afterLine (judged c k)) (held-line c l)
 
@@ -223,7 +223,7 @@ shut Refused n o h = (refl, eqb-true n 0 h)
 shut Ended n o h = absurd (false≢true h)
 
 -- a refused reader holds nothing
-refused-between : (s : Reader) → Kept s → isOpen (s .phase) ≡ false → s ≡ between Refused (s .counts)
+pub refused-between : (s : Reader) → Kept s → isOpen (s .phase) ≡ false → s ≡ between Refused (s .counts)
 refused-between s k o =
     let r = ruled s (k .0) in
     let e = shut (s .phase) (s .length) o (r .holding) in

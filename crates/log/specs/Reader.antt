@@ -1,4 +1,5 @@
--- Document 01, "The log and its report": a log is read byte by byte, in one piece or in several, and ended. Assumes nothing.
+-- Document 01, "The log and its report", and ticket 4 of document 02: a log is read byte by byte, in one piece or in several, and ended. Assumes
+-- nothing.
 use Prim.Native.Nat.{ℕ, _+_}
 use mathlib.Core.Bool.{Bool, true, false, cond, not, _&&_}
 use mathlib.Core.List.{List, [], _∷_}
@@ -93,10 +94,11 @@ abbrev pub afterPiece : Reader → ToldFed
 afterPiece s = unless (isOpen (s .phase)) (badLine s) (fine s)
 
 -- no line was refused, the first is there, and the last has its line feed
+abbrev pub isWhole : Reader → Bool
+isWhole s = isOpen (s .phase) && not (eqb (s .counts .channel) 0) && eqb (s .length) 0
+
 abbrev pub afterEnd : Reader → ToldFed
-afterEnd s =
-    unless (isOpen (s .phase) && not (eqb (s .counts .channel) 0) && eqb (s .length) 0) (badLine (between Refused (s .counts)))
-    (fine (between Ended (s .counts)))
+afterEnd s = unless (isWhole s) (badLine (between Refused (s .counts))) (fine (between Ended (s .counts)))
 
 -- the whole log
 abbrev pub wholeOf : ToldFed → ToldLog

@@ -1,12 +1,9 @@
--- `intake::read_all`: at each turn some bytes lead to the reader. Assumes nothing.
+-- `intake::read_all`: at each turn pieces lead to the reader. Assumes nothing.
 use lib.ListN.{length}
-use mathlib.Core.Path.{_≡_, refl, sym, _∙_}
-use mathlib.Core.List.{[]}
+use mathlib.Core.Path.{_≡_, refl, sym, _∙_, subst}
 use native.Mathlib.Omega.{arith}
-use Rattle.log.specs.declared.Reader.{Reader}
-use Rattle.log.specs.Reader.{freshReader}
-use Rattle.log.proofs.Runs.{run-none}
-use Rattle.intake.specs.Intake.{Reached}
+use Rattle.log.specs.Pieces.{Reached}
+use Rattle.log.proofs.Reached.{reached-fresh}
 use Rattle.intake.proofs.read_all.Statement.{statement}
 use Rattle.intake.proofs.read_all.Tie as tie
 
@@ -19,12 +16,8 @@ abbrev μ-loop : tie.MeasureT-loop
 start-requires : tie.Need-start-requires Inv-loop μ-loop
 start-requires c κs = tt
 
--- no byte has come yet
-reached-fresh : (s : Reader) → s ≡ freshReader → Reached s
-reached-fresh s e = record { bytes = []; small = refl; led = run-none freshReader ∙ sym e }
-
 loop-holds : tie.Need-loop-holds Inv-loop μ-loop
-loop-holds c = (refl, reached-fresh _ (c .start .ensures))
+loop-holds c = (refl, subst Reached (sym (c .start .ensures)) reached-fresh)
 
 read-some-requires : tie.Need-read-some-requires Inv-loop μ-loop
 read-some-requires c κs = c .before .before .before .loop .inv .1

@@ -1,28 +1,10 @@
 -- `intake::read_some`: the piece goes behind the bytes before it. Assumes nothing.
-use Prim.Native.Nat.{ℕ}
-use mathlib.Core.Path.{_≡_, sym, ap, _∙_}
-use mathlib.Core.Bool.{true}
-use mathlib.Core.List.{List, _++_}
-use lib.Pow.{areBytes}
 use native.Mathlib.Omega.{arith}
 use borrow.Author.Needs.{needs}
-use Rattle.answers.proofs.Bytes.{bytes-each, bytes-append, bytes-parts}
-use Rattle.log.specs.declared.Fed.{Fed}
-use Rattle.log.specs.declared.Reader.{Reader}
-use Rattle.log.specs.Reader.{ToldFed, toldFed, fedOf}
-use Rattle.log.proofs.Pieces.{piece-next}
-use Rattle.intake.specs.Intake.{Reached}
+use Rattle.answers.proofs.Bytes.{bytes-each, bytes-parts}
+use Rattle.log.proofs.Reached.{reached-next}
 use Rattle.intake.proofs.read_some.Statement.{statement}
 use Rattle.intake.proofs.read_some.Tie as tie
-
--- a piece leads on
-reached-next : (s : Reader) (piece : List ℕ) (fed : Fed) → Reached s → areBytes piece ≡ true → toldFed fed ≡ fedOf s piece → Reached (fed .reader)
-reached-next s piece fed r small e =
-    record {
-      bytes = r .bytes ++ piece;
-      small = bytes-append (r .bytes) piece ∙ rw (r .small, small);
-      led = sym (piece-next (r .bytes) piece) ∙ ap (λ (t : Reader). fedOf t piece .reader) (r .led) ∙ sym (ap (λ (t : ToldFed). t .reader) e);
-    }
 
 read-requires : tie.Need-read-requires
 read-requires c κs = search needs

@@ -1,5 +1,6 @@
 -- `log::rule::is_before`: no channel is 0, so at most one of the two ways is open. Assumes nothing.
 use Rattle.band.specs.Band.{isChannel}
+use Rattle.log.specs.Log.{isSound}
 use Rattle.log.specs.Reader.{isBefore}
 use Prim.Native.Nat.{ℕ}
 use mathlib.Core.Bool.{Bool, true, false, cond, _&&_, _||_, or-false}
@@ -28,7 +29,7 @@ returns : tie.Need-returns
 unfolding isBefore
 returns c =
     let x = c .before .before .before .before .before .args .counts in
-    rw (c .before .before .is-sound .ensures, c .is-channel .ensures, either (x .channel) (eqb (x .slots) 0) (eqb (x .channel) 0) refl)
+    rw (c .before .before .is-sound .ensures, c .is-channel .ensures) (ap (λ (t : Bool). isSound x && t) (either (x .channel) _ (eqb (x .channel) 0) refl))
 
 pub is-before-spec : {M : Type 1} → statement M
 is-before-spec = tie.close (tie.spec is-sound-requires cast-is-channel is-channel-requires returns)
