@@ -42,12 +42,12 @@ judgingByte zero bytes = 1
 judgingByte (suc room) [] = 1
 judgingByte (suc room) (b ∷ bytes) = cond (eqb b lineFeed) 1 (suc (judgingByte room bytes))
 
--- and which byte of a log, for the first line behind a good beginning
+-- and which byte of a log that is: a good beginning, whose lines count, and a rest, whose first line is judged
 abbrev pub judgedAt : Beginning → List ℕ → ℕ
 judgedAt beginning rest = length (textOf beginning) + judgingByte longestLine rest
 
--- What a piece tells, with which so many bytes of the log have come: from the judging byte on what `read` tells of the whole log; before it that it is
--- accepted, line 0, and the counts that `read` tells of the bytes so far.
+-- What a piece tells when, with it, these bytes of the log have come: from the judging byte on what `read` tells of the whole log; before it accepted,
+-- line 0, and the counts that `read` tells of the bytes so far.
 abbrev pub pieceTells : ℕ → List ℕ → List ℕ → ToldLog
 pieceTells judging log soFar = cond (leb judging (length soFar)) (readOf log) (record { answer = accepted; line = 0; counts = readOf soFar .counts })
 
@@ -56,7 +56,7 @@ abbrev pub allTell : ℕ → List ℕ → List ℕ → List (List ℕ) → List 
 allTell judging log before [] = readOf log ∷ []
 allTell judging log before (piece ∷ pieces) = pieceTells judging log (before ++ piece) ∷ allTell judging log (before ++ piece) pieces
 
--- A LOG IN PIECES: its longest good beginning and its rest, and what each call tells, by the byte at which the first line that is not good is judged.
+-- A LOG IN PIECES: its longest good beginning and its rest, and what each call tells, by the byte at which the line behind that beginning is judged.
 pub record ToldInPieces (pieces : List (List ℕ)) (outcomes : List Fed) : Type 0 where
   pub parted : Parted (flatten pieces)
   pub told : map (λ r. wholeOf (toldFed r)) outcomes ≡ allTell (judgedAt (parted .beginning) (parted .rest)) (flatten pieces) [] pieces
