@@ -6,6 +6,7 @@ use crate::arguments::UNREADABLE;
 use crate::floats;
 use crate::rooms;
 use channel::MOST_GATHERED;
+use log::LONGEST_LINE;
 use text::Number;
 
 // A row of the table is a command's name and the kinds of its arguments. A command is known by the place of its name;
@@ -36,7 +37,13 @@ pub const CHANNEL: usize = KHZ + COLUMNS;
 
 pub const LOG: usize = CHANNEL + COLUMNS;
 
-pub const SUMMARY: usize = LOG + COLUMNS;
+pub const START: usize = LOG + COLUMNS;
+
+pub const FEED: usize = START + COLUMNS;
+
+pub const END: usize = FEED + COLUMNS;
+
+pub const SUMMARY: usize = END + COLUMNS;
 
 pub const REPORT: usize = SUMMARY + COLUMNS;
 
@@ -44,8 +51,8 @@ pub const EXPORT: usize = REPORT + COLUMNS;
 
 // Reads a line, and answers its command, or `usize::MAX` where it is no case. The arguments that are numbers come to
 // their places, and the bytes that are given and lent to the start of their rooms. The kinds are a number below 256 (s),
-// 65,536 (m) or 2^32 (w), a flag (f), the phase of a channel (p) or of a group (g), a binary64 (d), bytes (i), a log (l),
-// the bytes of a channel (c), an output (o).
+// 65,536 (m) or 2^32 (w), a flag (f), the phase of a channel (p), of a group (g) or of a log's reader (r), a binary64 (d),
+// bytes (i), a log or a piece of one (l), the bytes of a channel (c), those that a reader holds (h), an output (o).
 pub(crate) fn read(line: &[u8], numbers: &mut [u64], given: &mut [u8], lent: &mut [u8]) -> usize {
     let table = b"correct\tio\t\
         read-block\tio\t\
@@ -59,6 +66,9 @@ pub(crate) fn read(line: &[u8], numbers: &mut [u64], given: &mut [u8], lent: &mu
         khz\tm\t\
         channel\tw\t\
         log\tl\t\
+        start\t\t\
+        feed\trswwwwwwwhwl\t\
+        end\trswwwwwwwhw\t\
         summary\tswwwwwww\t\
         report\tswwwwwwwo\t\
         export\tswwwwwwwfdfdo";
@@ -111,7 +121,7 @@ fn read_arguments(
 fn kept_at(kind: u8, place: usize) -> usize {
     match kind {
         b'i' | b'l' => GIVEN,
-        b'o' | b'c' => LENT,
+        b'o' | b'c' | b'h' => LENT,
         _ => place,
     }
 }
@@ -122,6 +132,7 @@ fn read_argument(kind: u8, argument: &[u8], given: &mut [u8], lent: &mut [u8]) -
         b'l' => read_bytes(argument, 0, rooms::LINE, given),
         b'o' => read_bytes(argument, 0, rooms::MOST_BYTES, lent),
         b'c' => read_bytes(argument, MOST_GATHERED, MOST_GATHERED, lent),
+        b'h' => read_bytes(argument, LONGEST_LINE, LONGEST_LINE, lent),
         _ => read_number(kind, argument),
     }
 }
@@ -143,6 +154,7 @@ fn read_number(kind: u8, argument: &[u8]) -> u64 {
         b'f' => word(argument, b"0\t1"),
         b'p' => word(argument, b"waiting\tready\tgathering"),
         b'g' => word(argument, b"idle\tgathering"),
+        b'r' => word(argument, b"open\trefused\tended"),
         b'd' => floats::read(argument),
         _ => UNREADABLE,
     }

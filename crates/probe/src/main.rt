@@ -7,6 +7,7 @@ mod floats;
 mod groups;
 mod messages;
 mod put;
+mod readers;
 mod rooms;
 mod surveys;
 
@@ -50,6 +51,9 @@ fn call_plain(command: usize, numbers: &[u64], given: &[u8], lent: &[u8]) {
         cases::KHZ => surveys::khz(numbers),
         cases::CHANNEL => surveys::channel(numbers),
         cases::LOG => surveys::read_log(given),
+        cases::START => readers::start(),
+        cases::FEED => readers::feed(numbers, given, lent),
+        cases::END => readers::end(numbers, lent),
         cases::SUMMARY => surveys::summarise(numbers),
         _ => put::word(b"bad case"),
     }

@@ -2,6 +2,7 @@
 ghost use Prim.Native.Nat.{_≤_};
 use crate::arguments;
 use crate::put;
+use crate::rooms;
 use channel::Channel;
 use channel::Fields;
 use channel::Header;
@@ -21,25 +22,14 @@ pub(crate) fn step(numbers: &[u64], information: &[u8], room: &[u8]) {
 
 // The state in the first four arguments.
 fn state_in(numbers: &[u64], room: &[u8]) -> Channel {
+    let mut bytes = [0u8; MOST_GATHERED];
+    rooms::copy(room, &mut bytes);
     Channel {
-        bytes: bytes_in(room),
+        bytes,
         gathered: arguments::count(numbers, 2),
         phase: phase_of(arguments::at(numbers, 3)),
         expected: arguments::small(numbers, 4),
     }
-}
-
-fn bytes_in(room: &[u8]) -> [u8; MOST_GATHERED] {
-    let mut bytes = [0u8; MOST_GATHERED];
-    let mut i = 0;
-    while i < MOST_GATHERED {
-        if room.len() <= i {
-            return bytes;
-        }
-        bytes[i] = room[i];
-        i += 1;
-    }
-    bytes
 }
 
 fn phase_of(number: u64) -> Phase {

@@ -39,6 +39,13 @@ pub(crate) fn put(room: &mut [u8], at: usize, byte: u8) -> usize {
     room.len()
 }
 
+// Copies bytes to the start of a room, where it has space for all of them.
+pub(crate) fn copy(bytes: &[u8], room: &mut [u8]) {
+    if bytes.len() <= room.len() {
+        bytes::copy(bytes, room);
+    }
+}
+
 // Puts the bytes that digits spell to the start of a room, and answers how many they are.
 pub(crate) fn fill(room: &mut [u8], digits: &[u8]) -> u64 {
     match text::read_bytes(digits, room) {

@@ -1,4 +1,5 @@
 // The survey's commands.
+ghost use Prim.Native.Nat.{_≤_};
 use crate::arguments;
 use crate::floats;
 use crate::put;
@@ -33,7 +34,7 @@ pub(crate) fn read_log(log: &[u8]) {
     put_counts(counts);
 }
 
-fn put_counts(counts: Counts) {
+pub(crate) fn put_counts(counts: Counts) {
     put::small(counts.channel);
     put::wide(counts.slots);
     put::wide(counts.read);
@@ -44,22 +45,24 @@ fn put_counts(counts: Counts) {
     put::wide(counts.missing);
 }
 
-// The counts in the first eight arguments.
-fn counts_in(numbers: &[u64]) -> Counts {
+// The counts in eight arguments from a place on.
+pub(crate) fn counts_from(numbers: &[u64], first: usize) -> Counts
+    requires { ⌜ first ≤ 2 ⌝ }
+{
     Counts {
-        channel: arguments::small(numbers, 1),
-        slots: arguments::wide(numbers, 2),
-        read: arguments::wide(numbers, 3),
-        clean: arguments::wide(numbers, 4),
-        bits: arguments::wide(numbers, 5),
-        noword: arguments::wide(numbers, 6),
-        check: arguments::wide(numbers, 7),
-        missing: arguments::wide(numbers, 8),
+        channel: arguments::small(numbers, first),
+        slots: arguments::wide(numbers, first + 1),
+        read: arguments::wide(numbers, first + 2),
+        clean: arguments::wide(numbers, first + 3),
+        bits: arguments::wide(numbers, first + 4),
+        noword: arguments::wide(numbers, first + 5),
+        check: arguments::wide(numbers, first + 6),
+        missing: arguments::wide(numbers, first + 7),
     }
 }
 
 pub(crate) fn summarise(numbers: &[u64]) {
-    let summarised = summary::summarise(counts_in(numbers));
+    let summarised = summary::summarise(counts_from(numbers, 1));
     let answer = summarised.answer;
     let record = summarised.summary;
     put::answer(b"summary", answer);
@@ -70,7 +73,7 @@ pub(crate) fn summarise(numbers: &[u64]) {
 }
 
 pub(crate) fn report(numbers: &[u64], output: &mut [u8]) {
-    let written = summary::report(counts_in(numbers), output);
+    let written = summary::report(counts_from(numbers, 1), output);
     let answer = written.answer;
     put::answer(b"report", answer);
     put::count(written.length);
@@ -89,7 +92,7 @@ fn summary_in(numbers: &[u64]) -> Summary {
 
 pub(crate) fn export(numbers: &[u64], output: &mut [u8]) {
     let summary = summary_in(numbers);
-    let written = summary::export(counts_in(numbers), summary, output);
+    let written = summary::export(counts_from(numbers, 1), summary, output);
     let answer = written.answer;
     put::answer(b"row", answer);
     put::count(written.length);
