@@ -15,6 +15,7 @@ mod message;
 mod notation;
 mod probe;
 mod random;
+mod reader;
 mod rows;
 mod search;
 mod selftest;

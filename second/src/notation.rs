@@ -4,11 +4,12 @@ use crate::block::Changes;
 use crate::channel::{Channel, Phase};
 use crate::group::{Group, Incoming};
 use crate::message::LARGEST_MESSAGE;
+use crate::reader::{self, Reader};
 use crate::survey::{Counts, Summary};
 
 /// More bytes than this make no case.
 pub const LONGEST_CASE: usize = 262_143;
-/// The most bytes of an argument that is no log.
+/// The most bytes of an argument that is no log and no piece of one.
 pub const LONGEST_ARGUMENT: usize = 32_768;
 
 const BYTE: u64 = 1 << 8;
@@ -19,6 +20,12 @@ const PHASES: [(&str, Phase); 3] = [
     ("waiting", Phase::Waiting),
     ("ready", Phase::Ready),
     ("gathering", Phase::Gathering),
+];
+
+const READER_PHASES: [(&str, reader::Phase); 3] = [
+    ("open", reader::Phase::Open),
+    ("refused", reader::Phase::Refused),
+    ("ended", reader::Phase::Ended),
 ];
 
 /// The arguments not read yet. Each reading gives nothing where the argument is missing or cannot
@@ -38,6 +45,7 @@ impl<'a> Arguments<'a> {
         self.fields.as_slice().is_empty().then_some(())
     }
 
+    /// A log or a piece of one.
     pub fn log(&mut self) -> Option<Vec<u8>> {
         let field = self.fields.next()?;
         if *field == b"." {
@@ -102,15 +110,18 @@ impl<'a> Arguments<'a> {
         let bytes = self
             .bytes()
             .filter(|bytes| bytes.len() == LARGEST_MESSAGE)?;
-        let length = self.word()?;
-        let name = self.fields.next()?;
-        let (_, phase) = PHASES.iter().find(|phase| phase.0.as_bytes() == *name)?;
         Some(Channel {
             bytes,
-            length,
-            phase: *phase,
+            length: self.word()?,
+            phase: self.one_of(&PHASES)?,
             expected: self.byte()?,
         })
+    }
+
+    fn one_of<T: Copy>(&mut self, named: &[(&str, T)]) -> Option<T> {
+        let name = self.fields.next()?;
+        let found = named.iter().find(|named| named.0.as_bytes() == *name);
+        found.map(|named| named.1)
     }
 
     pub fn group(&mut self) -> Option<Group> {
@@ -152,6 +163,15 @@ impl<'a> Arguments<'a> {
             noword: self.word()?,
             check: self.word()?,
             missing: self.word()?,
+        })
+    }
+
+    pub fn reader(&mut self) -> Option<Reader> {
+        Some(Reader {
+            phase: self.one_of(&READER_PHASES)?,
+            counts: self.counts()?,
+            held: self.bytes()?.try_into().ok()?,
+            length: self.word()?,
         })
     }
 
@@ -244,12 +264,15 @@ impl Line {
     }
 
     pub fn channel(self, channel: &Channel) -> Line {
-        let named = PHASES.iter().find(|phase| phase.1 == channel.phase);
-        let name = named.expect("every phase has a name").0;
         self.bytes(&channel.bytes)
             .number(channel.length)
-            .text(name)
+            .name(&PHASES, channel.phase)
             .number(channel.expected)
+    }
+
+    fn name<T: PartialEq>(self, named: &[(&str, T)], phase: T) -> Line {
+        let found = named.iter().find(|named| named.1 == phase);
+        self.text(found.expect("every phase has a name").0)
     }
 
     pub fn group(self, group: &Group) -> Line {
@@ -280,6 +303,13 @@ impl Line {
             .number(counts.noword)
             .number(counts.check)
             .number(counts.missing)
+    }
+
+    pub fn reader(self, reader: &Reader) -> Line {
+        self.name(&READER_PHASES, reader.phase)
+            .counts(&reader.counts)
+            .bytes(&reader.held)
+            .number(reader.length)
     }
 
     pub fn summary(self, summary: &Summary) -> Line {

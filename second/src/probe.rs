@@ -7,11 +7,12 @@ use crate::channel::{Channel, Step};
 use crate::group::{Group, Join};
 use crate::message::{self, Fill, MessageHeader};
 use crate::notation::{Arguments, Line, LONGEST_CASE};
+use crate::reader::{Reader, Refusal as ReaderRefusal};
 use crate::survey::{self, Summary};
 
 type Command = fn(&mut Arguments) -> Option<Line>;
 
-const COMMANDS: [(&str, Command); 15] = [
+const COMMANDS: [(&str, Command); 18] = [
     ("correct", correct),
     ("read-block", read_block),
     ("write-block", write_block),
@@ -24,6 +25,9 @@ const COMMANDS: [(&str, Command); 15] = [
     ("khz", khz),
     ("channel", channel),
     ("log", log),
+    ("start", start),
+    ("feed", feed),
+    ("end", end),
     ("summary", summary),
     ("report", report),
     ("export", export),
@@ -81,8 +85,12 @@ fn write_block(arguments: &mut Arguments) -> Option<Line> {
 
 fn new_channel(arguments: &mut Arguments) -> Option<Line> {
     arguments.end()?;
-    // The one answer without a first field: the line begins with the state's bytes.
-    let line = Line::new("").channel(&Channel::fresh()).done();
+    without_answer(Line::new("").channel(&Channel::fresh()))
+}
+
+/// A fresh state comes without an answer: the line begins behind its first tab.
+fn without_answer(line: Line) -> Option<Line> {
+    let line = line.done();
     Some(Line::new(std::str::from_utf8(&line[1..]).ok()?))
 }
 
@@ -192,6 +200,34 @@ fn log(arguments: &mut Arguments) -> Option<Line> {
     let (counts, bad_line) = survey::read_log(&bytes);
     let line = bad_line.map_or(Line::new("log"), |_| Line::refused(BAD_LINE));
     Some(line.count(bad_line.unwrap_or(0)).counts(&counts))
+}
+
+fn start(arguments: &mut Arguments) -> Option<Line> {
+    arguments.end()?;
+    without_answer(Line::new("").reader(&Reader::start()))
+}
+
+fn feed(arguments: &mut Arguments) -> Option<Line> {
+    let mut reader = arguments.reader()?;
+    let piece = arguments.log()?;
+    arguments.end()?;
+    let result = reader.feed(&piece);
+    Some(by_line("taken", result).reader(&reader))
+}
+
+fn end(arguments: &mut Arguments) -> Option<Line> {
+    let mut reader = arguments.reader()?;
+    arguments.end()?;
+    let result = reader.end();
+    Some(by_line("log", result).reader(&reader))
+}
+
+/// An answer with the number of the bad line, which is 0 where there is none.
+fn by_line(success: &str, result: Result<(), ReaderRefusal>) -> Line {
+    match result {
+        Ok(()) => Line::new(success).number(0u8),
+        Err((answer, line)) => Line::refused(answer).number(line),
+    }
 }
 
 fn summary(arguments: &mut Arguments) -> Option<Line> {

@@ -4,12 +4,13 @@
 mod blocks;
 mod lines;
 mod messages;
+mod reader;
 mod survey;
 
 /// Nothing, or what was found wrong.
 type Outcome = Result<(), String>;
 
-const TESTS: [(&str, fn() -> Outcome); 20] = [
+const TESTS: [(&str, fn() -> Outcome); 26] = [
     ("the field multiplies as polynomials do", blocks::field),
     ("the generator has seventeen roots in a row", blocks::roots),
     (
@@ -44,6 +45,14 @@ const TESTS: [(&str, fn() -> Outcome); 20] = [
         "counts are possible where a small log has them",
         survey::small_counts,
     ),
+    ("a log in pieces is told as the whole one", reader::cuttings),
+    (
+        "a short log is told alike however it is cut",
+        reader::all_cuttings,
+    ),
+    ("the longest log comes in pieces too", reader::longest_log),
+    ("readers that pieces lead to are good ones", reader::reached),
+    ("to readers that are good pieces lead", reader::reachable),
     ("exact decimals are exact", survey::decimals),
     ("channels and kilohertz belong together", survey::channels),
     ("cases are cases and bad lines are none", lines::cases),
@@ -51,6 +60,7 @@ const TESTS: [(&str, fn() -> Outcome); 20] = [
         "a refusal or a repeat leaves what was lent",
         lines::refusals,
     ),
+    ("answer 11 leaves a reader as it was", lines::readers),
 ];
 
 /// Whether all went well; a line on standard output for each test.

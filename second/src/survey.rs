@@ -5,8 +5,8 @@ use crate::decimal::exact;
 
 pub const LONGEST_LINE: usize = 64;
 pub const MOST_SLOTS: u32 = 999_999;
-const MOST_CORRECTED: u64 = 8;
-const LAST_CHANNEL: u8 = 204;
+pub const MOST_CORRECTED: u64 = 8;
+pub const LAST_CHANNEL: u8 = 204;
 
 /// The table of 000, channel by channel: number and kilohertz.
 fn channels() -> impl Iterator<Item = (u8, u32)> {
@@ -25,7 +25,7 @@ pub fn channel_of(khz: u32) -> Option<u8> {
         .map(|channel| channel.0)
 }
 
-#[derive(Clone, Debug, Default, PartialEq)]
+#[derive(Clone, Debug, Default, PartialEq, Eq, Hash)]
 pub struct Counts {
     pub channel: u8,
     pub slots: u32,

@@ -3,6 +3,7 @@
 use super::{Case, MAKERS};
 use crate::notation::{Line, LONGEST_ARGUMENT, LONGEST_CASE};
 use crate::random::Random;
+use crate::reader::{Reader, MOST_HELD};
 
 /// None of these can be read as bytes, number, flag, name of a phase or binary64.
 const UNREADABLE: [&[u8]; 18] = [
@@ -36,8 +37,8 @@ const TOO_GREAT: [&[u8]; 4] = [
 ];
 
 pub fn bad(random: &Random, index: usize) -> Vec<Case> {
-    let round = index / 8;
-    vec![match index % 8 {
+    let round = index / 9;
+    vec![match index % 9 {
         0 => argument_unreadable(random),
         1 => argument_missing(random),
         2 => argument_too_many(random),
@@ -45,6 +46,7 @@ pub fn bad(random: &Random, index: usize) -> Vec<Case> {
         4 => beyond_its_parameter(round),
         5 => odd_digits(random),
         6 => number_too_great(random),
+        7 => bad_reader(random, round),
         _ => over_a_limit(random, round),
     }]
 }
@@ -162,6 +164,51 @@ fn beyond_its_parameter(round: usize) -> Case {
     BEYOND[round % BEYOND.len()].as_bytes().to_vec()
 }
 
+/// The fields of a reader that is good but for one of them. `feed` has a piece behind them.
+fn bad_reader(random: &Random, round: usize) -> Case {
+    let name = random.pick(&["feed", "end"]);
+    let reader = Line::new(name).reader(&Reader::start()).done();
+    let mut fields: Vec<Vec<u8>> = reader
+        .split(|byte| *byte == b'\t')
+        .map(<[u8]>::to_vec)
+        .collect();
+    if name == "feed" {
+        fields.push(random.pick(&[&b"."[..], b"0a", b"6368"]).to_vec());
+    }
+    let digits = |bytes: usize| vec![b'0'; 2 * bytes];
+    match round % 18 {
+        // The numbers stand behind the phase, and the last one behind the held bytes.
+        0 => fields[2] = b"256".to_vec(),
+        number @ 1..=7 => fields[2 + number] = b"4294967296".to_vec(),
+        8 => fields[11] = b"4294967296".to_vec(),
+        9 => fields[10] = digits(MOST_HELD - 1),
+        10 => fields[10] = digits(MOST_HELD + 1),
+        11 => fields[10] = random.pick(&[b".".to_vec(), digits(1), digits(2 * MOST_HELD)]),
+        12 => drop(fields[10].pop()),
+        13 => fields[1] = random.pick(&OTHER_PHASES).to_vec(),
+        14 => drop(fields.remove(random.between(1, fields.len() - 1))),
+        15 => fields.insert(random.between(1, fields.len()), b"0".to_vec()),
+        16 => fields.push(b".".to_vec()),
+        // The fields of one command behind the name of another.
+        _ => fields[0] = random.pick(&[&b"start"[..], b"log", b"step"]).to_vec(),
+    }
+    fields.join(&b'\t')
+}
+
+/// Names of other states, and nearly that of a reader.
+const OTHER_PHASES: [&[u8]; 10] = [
+    b"waiting",
+    b"ready",
+    b"gathering",
+    b"idle",
+    b"Open",
+    b"opened",
+    b"end",
+    b"refuse",
+    b"0",
+    b".",
+];
+
 /// A byte argument with half a byte too many: the last one of a block command or of the log.
 fn odd_digits(random: &Random) -> Case {
     let name = random.pick(&["correct", "read-block", "write-block"]);
@@ -181,7 +228,8 @@ fn number_too_great(random: &Random) -> Case {
     fields.join(&b'\t')
 }
 
-/// States of another size, block arguments of 8,193 bytes, now and then a line beyond all bounds.
+/// States of another size, block arguments of a byte too many, now and then a line beyond all
+/// bounds.
 fn over_a_limit(random: &Random, round: usize) -> Case {
     let state = |length: usize| Line::new("step").bytes(&vec![0; length]).number(0u8);
     match round % 12 {
@@ -205,6 +253,10 @@ fn over_a_limit(random: &Random, round: usize) -> Case {
         5 => state(260).text("Ready").number(0u8).bytes(&[0; 22]).done(),
         11 if round % 36 == 11 => Line::new("log")
             .bytes(&random.bytes(LONGEST_CASE / 2 + 100))
+            .done(),
+        10 if round % 36 == 10 => Line::new("feed")
+            .reader(&Reader::start())
+            .bytes(&random.bytes(LONGEST_CASE / 2))
             .done(),
         _ => {
             let name = random.pick(&["correct", "read-block", "write-block"]);

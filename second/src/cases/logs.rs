@@ -56,17 +56,21 @@ const BAD_OUTCOMES: [&str; 22] = [
     "0\r", "8.", "x", "18", "_", "80",
 ];
 
-fn case(log: &[u8]) -> Vec<Case> {
-    vec![Line::new("log").bytes(log).done()]
+type Log = Vec<u8>;
+
+pub fn log(random: &Random, index: usize) -> Vec<Case> {
+    let logs = logs(random, index);
+    let case = |log: &Log| Line::new("log").bytes(log).done();
+    logs.iter().map(case).collect()
 }
 
-fn slot_line(random: &Random, slot: usize) -> Vec<u8> {
+pub fn slot_line(random: &Random, slot: usize) -> Vec<u8> {
     let outcome = char::from(random.pick(OUTCOMES));
     format!("{slot}\t{outcome}\n").into_bytes()
 }
 
 /// A good log, line by line.
-fn good_lines(random: &Random, slots: usize) -> Vec<Vec<u8>> {
+pub fn good_lines(random: &Random, slots: usize) -> Vec<Vec<u8>> {
     let channel = random.pick(&[1, 9, 10, 99, 100, 203, 204, random.between(1, 204)]);
     let mut lines = vec![format!("channel\t{channel}\n").into_bytes()];
     lines.extend((1..=slots).map(|slot| slot_line(random, slot)));
@@ -79,10 +83,11 @@ fn some_lines(random: &Random) -> Vec<Vec<u8>> {
     good_lines(random, slots)
 }
 
-pub fn log(random: &Random, index: usize) -> Vec<Case> {
+/// The logs of the cases with a number; `pieces.rs` cuts them.
+pub fn logs(random: &Random, index: usize) -> Vec<Log> {
     let round = index / 16;
     match index % 16 {
-        0 | 1 => case(&some_lines(random).concat()),
+        0 | 1 => vec![some_lines(random).concat()],
         2 => plain(random, round),
         3 | 8 => one_byte_changed(random),
         4 => one_byte_more_or_less(random),
@@ -100,29 +105,29 @@ pub fn log(random: &Random, index: usize) -> Vec<Case> {
 }
 
 /// Empty, first line only, with and without its line feed, an empty line at the end.
-fn plain(random: &Random, round: usize) -> Vec<Case> {
+fn plain(random: &Random, round: usize) -> Vec<Log> {
     let first = good_lines(random, 0).concat();
     let mut log = match round % 6 {
         0 => Vec::new(),
         1 | 2 => first,
-        3 => return case(&first[..first.len() - 1]),
+        3 => return vec![first[..first.len() - 1].to_vec()],
         4 => b"\n".to_vec(),
         _ => some_lines(random).concat(),
     };
     if round % 6 == 5 {
         log.push(b'\n');
     }
-    case(&log)
+    vec![log]
 }
 
-fn one_byte_changed(random: &Random) -> Vec<Case> {
+fn one_byte_changed(random: &Random) -> Vec<Log> {
     let mut log = some_lines(random).concat();
     let place = random.below(log.len());
     log[place] = random.pick(&[random.byte(), b'0', b'1', b'\t', b'\n', b' ', b'-']);
-    case(&log)
+    vec![log]
 }
 
-fn one_byte_more_or_less(random: &Random) -> Vec<Case> {
+fn one_byte_more_or_less(random: &Random) -> Vec<Log> {
     let mut log = some_lines(random).concat();
     let place = random.below(log.len());
     if random.flag() {
@@ -131,27 +136,27 @@ fn one_byte_more_or_less(random: &Random) -> Vec<Case> {
         let byte = random.pick(&[random.byte(), b'0', b'1', b'\t', b'\n', b' ', b'\r', 0]);
         log.insert(place, byte);
     }
-    case(&log)
+    vec![log]
 }
 
-fn bad_first_line(random: &Random, round: usize) -> Vec<Case> {
+fn bad_first_line(random: &Random, round: usize) -> Vec<Log> {
     let mut lines = some_lines(random);
     lines[0] = BAD_FIRST_LINES[round % BAD_FIRST_LINES.len()]
         .as_bytes()
         .to_vec();
-    case(&lines.concat())
+    vec![lines.concat()]
 }
 
-fn bad_outcome(random: &Random, round: usize) -> Vec<Case> {
+fn bad_outcome(random: &Random, round: usize) -> Vec<Log> {
     let mut lines = some_lines(random);
     let slot = random.between(1, lines.len() - 1);
     let outcome = BAD_OUTCOMES[round % BAD_OUTCOMES.len()];
     lines[slot] = format!("{slot}\t{outcome}\n").into_bytes();
-    case(&lines.concat())
+    vec![lines.concat()]
 }
 
 /// A number that is not the next one, or is it in another writing, or only modulo 2^32 or 2^64.
-fn bad_slot_number(random: &Random, round: usize) -> Vec<Case> {
+fn bad_slot_number(random: &Random, round: usize) -> Vec<Log> {
     let mut lines = some_lines(random);
     let slot = random.between(1, lines.len() - 1);
     let wide = slot as u128;
@@ -175,10 +180,10 @@ fn bad_slot_number(random: &Random, round: usize) -> Vec<Case> {
     };
     let separator = random.pick(&["\t", "\t", "\t", " ", "", "\t\t"]);
     lines[slot] = format!("{number}{separator}0\n").into_bytes();
-    case(&lines.concat())
+    vec![lines.concat()]
 }
 
-fn lines_moved(random: &Random) -> Vec<Case> {
+fn lines_moved(random: &Random) -> Vec<Log> {
     let mut lines = some_lines(random);
     let place = random.below(lines.len());
     let other = random.below(lines.len());
@@ -189,11 +194,11 @@ fn lines_moved(random: &Random) -> Vec<Case> {
         3 => lines.insert(place, b"\n".to_vec()),
         _ => lines.insert(place, lines[0].clone()),
     }
-    case(&lines.concat())
+    vec![lines.concat()]
 }
 
 /// Lines of 62 to 66 and far more bytes with their line feed, first or later.
-fn line_length(random: &Random, round: usize) -> Vec<Case> {
+fn line_length(random: &Random, round: usize) -> Vec<Log> {
     let length = [62, 63, 64, 65, 66, 128, 1000][round % 7];
     let mut lines = some_lines(random);
     let place = if random.flag() {
@@ -210,17 +215,17 @@ fn line_length(random: &Random, round: usize) -> Vec<Case> {
     }
     line.push(b'\n');
     lines[place] = line;
-    case(&lines.concat())
+    vec![lines.concat()]
 }
 
-fn cut(random: &Random) -> Vec<Case> {
+fn cut(random: &Random) -> Vec<Log> {
     let log = some_lines(random).concat();
     let end = random.pick(&[log.len() - 1, random.below(log.len())]);
-    case(&log[..end])
+    vec![log[..end].to_vec()]
 }
 
 /// All 256 bytes in turn as outcome, as separator or as end of the first line.
-fn byte_of_every_value(random: &Random, round: usize) -> Vec<Case> {
+fn byte_of_every_value(random: &Random, round: usize) -> Vec<Log> {
     let byte = (round % 256) as u8;
     let mut log = good_lines(random, 1).concat();
     let place = match round / 256 % 3 {
@@ -229,10 +234,10 @@ fn byte_of_every_value(random: &Random, round: usize) -> Vec<Case> {
         _ => 7,
     };
     log[place] = byte;
-    case(&log)
+    vec![log]
 }
 
-fn carriage_returns(random: &Random) -> Vec<Case> {
+fn carriage_returns(random: &Random) -> Vec<Log> {
     let mut lines = some_lines(random);
     let only = random.below(lines.len());
     let everywhere = random.flag();
@@ -241,10 +246,10 @@ fn carriage_returns(random: &Random) -> Vec<Case> {
             line.insert(line.len() - 1, b'\r');
         }
     }
-    case(&lines.concat())
+    vec![lines.concat()]
 }
 
-fn any_bytes(random: &Random) -> Vec<Case> {
+fn any_bytes(random: &Random) -> Vec<Log> {
     let length = random.between(0, 80);
     let log = match random.flag() {
         true => random.bytes(length),
@@ -252,11 +257,11 @@ fn any_bytes(random: &Random) -> Vec<Case> {
             .map(|_| random.pick(b"channel\t\t\n\n0123-nc"))
             .collect(),
     };
-    case(&log)
+    vec![log]
 }
 
 /// Some hundreds of slots; now and then as many as a case can hold.
-fn longer(random: &Random, round: usize) -> Vec<Case> {
+fn longer(random: &Random, round: usize) -> Vec<Log> {
     let slots = match round % 40 {
         39 => random.pick(&[15_000, 18_000]),
         _ => random.between(100, 1200),
@@ -269,5 +274,5 @@ fn longer(random: &Random, round: usize) -> Vec<Case> {
     let mut log = lines.concat();
     // Half of a case's bytes, less what the command needs.
     log.truncate(LONGEST_CASE / 2 - 8);
-    case(&log)
+    vec![log]
 }

@@ -4,8 +4,9 @@ mod bad;
 mod blocks;
 mod channel;
 mod groups;
-mod logs;
+pub mod logs;
 pub mod patterns;
+mod pieces;
 mod repeats;
 mod survey;
 mod writers;
@@ -23,7 +24,7 @@ pub type Case = Vec<u8>;
 /// number, so that a few dozen cases hold one of each.
 type Maker = fn(&Random, usize) -> Vec<Case>;
 
-pub const MAKERS: [(&str, Maker); 15] = [
+pub const MAKERS: [(&str, Maker); 18] = [
     ("correct", blocks::correct),
     ("read-block", blocks::read_block),
     ("write-block", blocks::write_block),
@@ -36,6 +37,9 @@ pub const MAKERS: [(&str, Maker); 15] = [
     ("khz", survey::khz),
     ("channel", survey::channel),
     ("log", logs::log),
+    ("start", pieces::start),
+    ("feed", pieces::feed),
+    ("end", pieces::end),
     ("summary", survey::summary),
     ("report", survey::report),
     ("export", survey::export),
@@ -58,7 +62,7 @@ pub fn makers(word: &str) -> Vec<(&'static str, Maker)> {
         .collect()
 }
 
-/// So many lines of the command; there is only one case without arguments.
+/// So many lines of the command; without arguments there is only one case.
 pub fn make(
     maker: &(&str, Maker),
     count: usize,
@@ -66,10 +70,9 @@ pub fn make(
     sink: &mut dyn FnMut(&[u8]) -> io::Result<()>,
 ) -> io::Result<()> {
     let random = Random::new(seed, maker.0);
-    let mut left = if maker.0 == "new-channel" {
-        count.min(1)
-    } else {
-        count
+    let mut left = match maker.0 {
+        "new-channel" | "start" => count.min(1),
+        _ => count,
     };
     let mut index = 0;
     while left > 0 {

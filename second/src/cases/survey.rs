@@ -58,6 +58,11 @@ pub fn good_counts(random: &Random) -> Counts {
         true => greatest,
         false => random.below(greatest as usize + 1) as u32,
     };
+    counts_of_slots(random, slots)
+}
+
+/// Counts that some log of so many slots has.
+pub fn counts_of_slots(random: &Random, slots: u32) -> Counts {
     let [read, noword, check, missing] = parts(random, slots);
     let clean = random.pick(&[0, read, random.below(read as usize + 1) as u32]);
     let corrected = read - clean;
@@ -78,7 +83,7 @@ pub fn good_counts(random: &Random) -> Counts {
 
 /// Too many slots, outcomes that add up only modulo 2^32, clean readings with corrected bits, a
 /// corrected reading without any.
-const IMPOSSIBLE: [Counts; 5] = [
+pub const IMPOSSIBLE: [Counts; 5] = [
     counts_of([1_000_000, 0, 0, 0, 0, 0, 1_000_000]),
     counts_of([5, 3_000_000_000, 3_000_000_000, 0, 1_294_967_301, 0, 0]),
     counts_of([0, 0, 0, 0, 0, 1 << 31, 1 << 31]),
@@ -86,7 +91,7 @@ const IMPOSSIBLE: [Counts; 5] = [
     counts_of([1, 1, 0, 0, 0, 0, 0]),
 ];
 
-const fn counts_of(columns: [u32; 7]) -> Counts {
+pub const fn counts_of(columns: [u32; 7]) -> Counts {
     let [slots, read, clean, bits, noword, check, missing] = columns;
     Counts {
         channel: 1,
@@ -124,7 +129,7 @@ fn broken_counts(random: &Random, round: usize) -> Counts {
     counts
 }
 
-fn any_counts(random: &Random) -> Counts {
+pub fn any_counts(random: &Random) -> Counts {
     let number = || random.next() as u32 >> (random.next() % 32);
     Counts {
         channel: number() as u8,

@@ -45,6 +45,30 @@ pub fn cases() -> Outcome {
     })
 }
 
+/// With 11 the fields behind answer and line are the reader that was handed in; it is the answer
+/// to broken readers, of which there must be some, and to ended ones.
+pub fn readers() -> Outcome {
+    for word in ["feed", "end"] {
+        let mut refused = 0;
+        for case in cases_of(word, 9)? {
+            let (case, answer) = (text(&case).to_ascii_lowercase(), text(&answer(&case)));
+            let reader = |line: &str, skipped: usize| {
+                let fields = line.split('\t').skip(skipped).take(11);
+                fields.map(String::from).collect::<Vec<_>>()
+            };
+            if answer.starts_with("11\t") {
+                refused += 1;
+                expect(answer.starts_with("11\t0\t"), || answer.clone())?;
+                expect_equal(reader(&answer, 2), reader(&case, 1), word)?;
+            } else {
+                expect(!case.contains("\tended\t"), || case.clone())?;
+            }
+        }
+        expect(refused > COUNT / 50, || format!("{refused} broken readers"))?;
+    }
+    Ok(())
+}
+
 /// Where the answer is a number or `repeat`, the last field is the lent buffer as it came.
 pub fn refusals() -> Outcome {
     let lending = [

@@ -27,7 +27,7 @@ fn counts_of(channel: u8, outcomes: &str) -> Counts {
     }
 }
 
-fn log_of(channel: u8, outcomes: &str) -> String {
+pub fn log_of(channel: u8, outcomes: &str) -> String {
     let slots = outcomes.chars().enumerate();
     let lines: String = slots
         .map(|(i, outcome)| format!("{}\t{outcome}\n", i + 1))
@@ -68,7 +68,7 @@ pub fn logs() -> Outcome {
     expect_equal(read_log(log.as_bytes()), wanted, "one slot too many")
 }
 
-fn columns(counts: &Counts) -> [u32; 7] {
+pub fn columns(counts: &Counts) -> [u32; 7] {
     let Counts {
         slots,
         read,
@@ -83,7 +83,7 @@ fn columns(counts: &Counts) -> [u32; 7] {
 }
 
 /// The counts of every log of at most three slots.
-fn counts_of_small_logs() -> HashSet<[u32; 7]> {
+pub fn counts_of_small_logs() -> HashSet<[u32; 7]> {
     let longer = |log: &String| {
         OUTCOMES
             .chars()
@@ -99,18 +99,27 @@ fn counts_of_small_logs() -> HashSet<[u32; 7]> {
     found
 }
 
-/// Every row of small counts against those logs.
+/// Those rows of small counts are possible that such a log has.
 pub fn small_counts() -> Outcome {
     let found = counts_of_small_logs();
+    for counts in all_small_counts() {
+        let wanted = found.contains(&columns(&counts));
+        expect(counts.come_from_a_log() == wanted, || format!("{counts:?}"))?;
+    }
+    Ok(())
+}
+
+/// Every row of numbers as small as those of a log of at most three slots, and some greater.
+pub fn all_small_counts() -> impl Iterator<Item = Counts> {
     let sizes = [4, 5, 5, 27, 5, 5, 5];
-    for number in 0..sizes.iter().product() {
+    (0..sizes.iter().product()).map(move |number| {
         let mut rest = number;
         let [slots, read, clean, bits, noword, check, missing] = sizes.map(|size: u32| {
             let column = rest % size;
             rest /= size;
             column
         });
-        let counts = Counts {
+        Counts {
             channel: 1,
             slots,
             read,
@@ -119,11 +128,8 @@ pub fn small_counts() -> Outcome {
             noword,
             check,
             missing,
-        };
-        let wanted = found.contains(&columns(&counts));
-        expect(counts.come_from_a_log() == wanted, || format!("{counts:?}"))?;
-    }
-    Ok(())
+        }
+    })
 }
 
 /// Read back by Rust it is the same binary64, and Rust's own rounding to 200 places, which is
