@@ -4,6 +4,7 @@ use std::cell::Cell;
 
 /// The state is in a cell so that one number's bounds may be another number.
 pub struct Random {
+    seed: u64,
     state: Cell<u64>,
 }
 
@@ -11,12 +12,19 @@ impl Random {
     /// The name keeps the rows of two commands apart under the same seed.
     pub fn new(seed: u64, name: &str) -> Random {
         let random = Random {
+            seed,
             state: Cell::new(seed),
         };
         for byte in name.bytes() {
             random.state.set(random.next() ^ u64::from(byte));
         }
         random
+    }
+
+    /// The row for the cases of a command with a number, whoever asks for it: so a maker can go on
+    /// from what another command's case is made of.
+    pub fn row_of(&self, command: &str, number: usize) -> Random {
+        Random::new(self.seed, &format!("{command} {number}"))
     }
 
     pub fn next(&self) -> u64 {

@@ -69,13 +69,14 @@ pub fn make(
     seed: u64,
     sink: &mut dyn FnMut(&[u8]) -> io::Result<()>,
 ) -> io::Result<()> {
-    let random = Random::new(seed, maker.0);
+    let seeded = Random::new(seed, maker.0);
     let mut left = match maker.0 {
         "new-channel" | "start" => count.min(1),
         _ => count,
     };
     let mut index = 0;
     while left > 0 {
+        let random = seeded.row_of(maker.0, index);
         let cases = maker.1(&random, index);
         for case in cases.iter().take(left) {
             sink(&in_some_digits(&random, case))?;

@@ -99,11 +99,14 @@ fn scripts(random: &Random, index: usize) -> Vec<Script> {
         14 => several(2, round, |round| afterwards(random, round)),
         15 if round % 100 == 1 => vec![filled_line(random)],
         15 => several(4, round, |_| from_any_reader(random)),
-        // All others go through the logs in their order.
-        kind => logs(random, 11 * round + kind)
-            .iter()
-            .map(|log| in_pieces(random, log))
-            .collect(),
+        // All others go through the very logs of the command `log`, in their order.
+        kind => {
+            let number = 11 * round + kind;
+            logs(&random.row_of("log", number), number)
+                .iter()
+                .map(|log| in_pieces(random, log))
+                .collect()
+        }
     }
 }
 
