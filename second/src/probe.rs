@@ -7,7 +7,7 @@ use crate::channel::{Channel, Step};
 use crate::group::{Group, Join};
 use crate::message::{self, Fill, MessageHeader};
 use crate::notation::{Arguments, Line, LONGEST_CASE};
-use crate::reader::{Reader, Refusal as ReaderRefusal};
+use crate::reader::{NotTaken, Reader};
 use crate::survey::{self, Summary};
 
 type Command = fn(&mut Arguments) -> Option<Line>;
@@ -223,7 +223,7 @@ fn end(arguments: &mut Arguments) -> Option<Line> {
 }
 
 /// An answer with the number of the bad line, which is 0 where there is none.
-fn by_line(success: &str, result: Result<(), ReaderRefusal>) -> Line {
+fn by_line(success: &str, result: Result<(), NotTaken>) -> Line {
     match result {
         Ok(()) => Line::new(success).number(0u8),
         Err((answer, line)) => Line::refused(answer).number(line),

@@ -2,8 +2,9 @@
 //!
 //! `survey.rs` cuts a whole log at its line feeds and compares each line with the text it must be.
 //! This machine knows no text but the word `channel`: it goes from part to part of a line and reads
-//! the numbers digit by digit. Which readers pieces lead to is asked by going there: a log with the
-//! reader's counts is put together, and the bytes held are taken once more.
+//! the numbers digit by digit. Which readers pieces lead to is reckoned: how many slots of each
+//! outcome make the counts, and the bytes held are taken once more. The self-test feeds the log of
+//! such slots, and finds the reader.
 
 use crate::answers::{BAD_LINE, OUTSIDE_RULE};
 use crate::survey::{Counts, LAST_CHANNEL, LONGEST_LINE, MOST_CORRECTED, MOST_SLOTS};
@@ -29,7 +30,7 @@ pub struct Reader {
 }
 
 /// The answer and the number of the bad line, which is 0 where there is none.
-pub type Refusal = (u8, u32);
+pub type NotTaken = (u8, u32);
 
 impl Reader {
     pub fn start() -> Reader {
@@ -53,13 +54,13 @@ impl Reader {
         reader
     }
 
-    pub fn feed(&mut self, piece: &[u8]) -> Result<(), Refusal> {
+    pub fn feed(&mut self, piece: &[u8]) -> Result<(), NotTaken> {
         let mut machine = self.machine()?;
         machine.take_all(piece);
         self.leave(machine)
     }
 
-    pub fn end(&mut self) -> Result<(), Refusal> {
+    pub fn end(&mut self) -> Result<(), NotTaken> {
         let mut machine = self.machine()?;
         if machine.part != Part::SLOT_BEGINS {
             machine.refuse();
@@ -70,14 +71,14 @@ impl Reader {
     }
 
     /// The machine as the pieces so far left it.
-    fn machine(&self) -> Result<Machine, Refusal> {
+    fn machine(&self) -> Result<Machine, NotTaken> {
         if !self.goes_on() {
             return Err((OUTSIDE_RULE, 0));
         }
         Ok(Machine::of(self))
     }
 
-    fn leave(&mut self, machine: Machine) -> Result<(), Refusal> {
+    fn leave(&mut self, machine: Machine) -> Result<(), NotTaken> {
         *self = machine.reader();
         match self.phase {
             Phase::Refused => Err((BAD_LINE, self.next_line())),

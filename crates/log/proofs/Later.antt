@@ -32,9 +32,9 @@ always s told k f calls outcomes r = run-told callOf (λ t. t .reader) toldFed s
 -- ---- 11
 
 -- OUTSIDE ITS RULE A READER GETS 11 AND STAYS AS IT IS
-pub outside-shut : (s : Reader) → isReader s ≡ false → Always s (noReader s)
+pub outside-stays : (s : Reader) → isReader s ≡ false → Always s (noReader s)
 unfolding fedOf endOf
-outside-shut s k = always s (noReader s) refl each
+outside-stays s k = always s (noReader s) refl each
   where
     each : (call : Call) → callOf s call ≡ noReader s
     each (feed piece) = rw k
@@ -98,12 +98,12 @@ refused-stays s call r h e a =
 -- ---- after an accepted end
 
 -- AFTER AN ACCEPTED END EVERY CALL GIVES 11 AND CHANGES NOTHING
-pub ended-shut : (s : Reader) (r : Fed) → toldFed r ≡ endOf s → paper (r .answer) ≡ accepted → Always (r .reader) (noReader (r .reader))
+pub ended-stays : (s : Reader) (r : Fed) → toldFed r ≡ endOf s → paper (r .answer) ≡ accepted → Always (r .reader) (noReader (r .reader))
 unfolding endOf
-ended-shut s r e a =
+ended-stays s r e a =
     let p = unless-passed (λ (t : ToldFed). t .answer ≡ accepted) (isReader s) (noReader s) (afterEnd s) (refused-accepted 11) (ap (λ (t : ToldFed). t .answer) (sym e) ∙ a) in
     by-cases _ (isWhole s)
     (λ t.
     let k : r .reader ≡ between Ended (s .counts) = ap (λ (t : ToldFed). t .reader) e ∙ rw (p .0, t) in
-    subst (λ (n : Reader). Always n (noReader n)) (sym k) (outside-shut (between Ended (s .counts)) (ended-outside (s .counts))))
+    subst (λ (n : Reader). Always n (noReader n)) (sym k) (outside-stays (between Ended (s .counts)) (ended-outside (s .counts))))
     (λ t. absurd (refused-accepted 12 (rw t at (p .1))))

@@ -95,8 +95,8 @@ shut-after s t a b e o = run-append s a b ∙ ap (λ (r : Reader). run r b) e �
 
 -- ---- what a piece tells, of the bytes so far and those that are still to come
 
-same-counts : (s : Reader) → afterEnd s .reader .counts ≡ s .counts
-same-counts s = by-cases _ (isWhole s) (λ t. rw t) (λ t. rw t)
+end-counts : (s : Reader) → afterEnd s .reader .counts ≡ s .counts
+end-counts s = by-cases _ (isWhole s) (λ t. rw t) (λ t. rw t)
 
 -- not judged yet: the line is held, or it has not come so far
 told-open : (b : Beginning) (rest soFar later : List ℕ) (c : Cut 63 rest) → isGood b ≡ true → (textOf b ++ c .line) ++ c .more ≡ soFar ++ later
@@ -106,7 +106,7 @@ told-open b rest soFar later c g e h =
     let s = run freshReader soFar in
     let p = prefix soFar later (textOf b ++ c .line) (c .more) (sym e) h in
     let o = open-before freshReader soFar (p .0) (ap (λ (l : List ℕ). isOpen (run freshReader l .phase)) (sym (p .1)) ∙ ap (λ (r : Reader). isOpen (r .phase)) (held-run b rest c g)) in
-    ap wholeOf (fed-open s o) ∙ ap (λ (n : Counts). record { answer = accepted; line = 0; counts = n }) (sym (same-counts s))
+    ap wholeOf (fed-open s o) ∙ ap (λ (n : Counts). record { answer = accepted; line = 0; counts = n }) (sym (end-counts s))
 
 refused-told : (soFar later : List ℕ) (c : Counts) → run freshReader soFar ≡ between Refused c → wholeOf (afterPiece (run freshReader soFar)) ≡ readOf (soFar ++ later)
 unfolding readOf

@@ -32,7 +32,7 @@ use Rattle.log.proofs.Beginnings.{good, good-is, begin-run}
 use Rattle.log.proofs.Bytes.{begin-bytes}
 use Rattle.log.proofs.Exact.{no-slots, outcomes-of}
 use Rattle.log.proofs.Pieces.{taken, fed-reader, end-tells}
-use Rattle.log.proofs.Later.{outside-shut, told-apart}
+use Rattle.log.proofs.Later.{outside-stays, told-apart}
 
 -- ---- pieces lead where their bytes lead
 
@@ -76,7 +76,7 @@ reached-by bytes small =
     let o = isOpen (s .phase) in
     record {
       pieces = bytes ∷ [];
-      bytes = ap areBytes (append-nil bytes) ∙ small;
+      small = ap areBytes (append-nil bytes) ∙ small;
       outcomes = outcome-of o s ∷ [];
       given = (outcome-told o s ∙ sym (taken [] bytes) ∙ ap (λ (r : Reader). fedOf r bytes) (run-none freshReader), tt);
       left = outcome-left o s;
@@ -92,15 +92,15 @@ reached-next s piece r h small e =
     let n : run freshReader (before ++ piece) ≡ r .reader
     = sym (fed-reader (run freshReader (before ++ piece))) ∙ ap (λ (t : ToldFed). t .reader) (sym (taken before piece))
     ∙ ap (λ (s : Reader). fedOf s piece .reader) (reached-run s h) ∙ ap (λ (t : ToldFed). t .reader) (sym e) in
-    subst Reached n (reached-by (before ++ piece) (bytes-append before piece ∙ rw (h .bytes, small)))
+    subst Reached n (reached-by (before ++ piece) (bytes-append before piece ∙ rw (h .small, small)))
 
 -- and what the end then tells
 pub reached-end : (s : Reader) (h : Reached s) → wholeOf (endOf s) ≡ readOf (flatten (h .pieces))
 reached-end s h = ap (λ (s : Reader). wholeOf (endOf s)) (sym (reached-run s h)) ∙ end-tells (flatten (h .pieces))
 
 -- EVERY READER THAT PIECES LEAD TO KEEPS THE RULE
-pub reached-reader : (s : Reader) → Reached s → isReader s ≡ true
-reached-reader s h = subst (λ (s : Reader). isReader s ≡ true) (reached-run s h) (run-kept freshReader (flatten (h .pieces)) fresh-kept .0)
+pub reached-ruled : (s : Reader) → Reached s → isReader s ≡ true
+reached-ruled s h = subst (λ (s : Reader). isReader s ≡ true) (reached-run s h) (run-kept freshReader (flatten (h .pieces)) fresh-kept .0)
 
 -- ---- counts that may stand before a line are those of a good beginning
 
@@ -160,14 +160,14 @@ refused-reached s k o =
     (reached-by (textOf (g .beginning) ++ tooLong) (bytes-append (textOf (g .beginning)) tooLong ∙ rw (begin-bytes (g .beginning) (g .good))))
 
 -- TO EVERY READER THAT KEEPS THE RULE PIECES LEAD
-pub reader-reached : (s : Reader) → SixtyThreeBytes (s .held) → isReader s ≡ true → Reached s
-reader-reached s h e = by-cases (Reached s) (isOpen (s .phase)) (open-reached s (e, h .count) (h .bytes)) (refused-reached s (e, h .count))
+pub ruled-reached : (s : Reader) → SixtyThreeBytes (s .held) → isReader s ≡ true → Reached s
+ruled-reached s h e = by-cases (Reached s) (isOpen (s .phase)) (open-reached s (e, h .count) (h .small)) (refused-reached s (e, h .count))
 
 -- ---- so 11 is for the others
 
 -- A READER THAT NO PIECES LEAD TO GETS 11 AND STAYS AS IT IS
-pub unreached-shut : (s : Reader) → SixtyThreeBytes (s .held) → (Reached s → ⊥) → Always s (noReader s)
-unreached-shut s h n = by-cases _ (isReader s) (λ e. absurd (n (reader-reached s h e))) (outside-shut s)
+pub unreached-stays : (s : Reader) → SixtyThreeBytes (s .held) → (Reached s → ⊥) → Always s (noReader s)
+unreached-stays s h n = by-cases _ (isReader s) (λ e. absurd (n (ruled-reached s h e))) (outside-stays s)
 
 -- within the rule a call is accepted, or refused with 12
 inside-answers : (P : Paper → Type 0) (s : Reader) (call : Call) → isReader s ≡ true → P accepted → P (refused 12) → P (callOf s call .answer)
@@ -182,4 +182,4 @@ inside-answers P s end k a b =
 -- AND ONE THAT PIECES LEAD TO NEVER DOES
 pub reached-taken : (s : Reader) (call : Call) (r : Fed) → Reached s → toldFed r ≡ callOf s call → paper (r .answer) ≡ refused 11 → ⊥
 reached-taken s call r h e a =
-    inside-answers (λ p. p ≡ refused 11 → ⊥) s call (reached-reader s h) (λ z. refused-accepted 11 (sym z)) (λ z. told-apart (sym z)) (ap (λ (t : ToldFed). t .answer) (sym e) ∙ a)
+    inside-answers (λ p. p ≡ refused 11 → ⊥) s call (reached-ruled s h) (λ z. refused-accepted 11 (sym z)) (λ z. told-apart (sym z)) (ap (λ (t : ToldFed). t .answer) (sym e) ∙ a)

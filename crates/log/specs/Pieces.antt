@@ -35,14 +35,14 @@ abbrev pub inPieces : List (List ℕ) → List Call
 inPieces [] = end ∷ []
 inPieces (piece ∷ pieces) = feed piece ∷ inPieces pieces
 
--- "A line is judged at its line feed, or at a 64th byte that is none": which byte of these that is, where so many may come before the 64th. Where
--- there is no such byte it is one more than there are: "The missing last line feed is found only at the end."
+-- "A line is judged at its line feed, or at a 64th byte that is none": the number of the byte at which a line is judged, 1 for the first of these, where
+-- `room` of them may come before its 64th. Where none of them judges it, one more than there are: "The missing last line feed is found only at the end."
 unfoldable pub judgingByte : ℕ → List ℕ → ℕ
 judgingByte zero bytes = 1
 judgingByte (suc room) [] = 1
 judgingByte (suc room) (b ∷ bytes) = cond (eqb b lineFeed) 1 (suc (judgingByte room bytes))
 
--- and which byte of a log that is: a good beginning, whose lines count, and a rest, whose first line is judged
+-- and the number of that byte in a log: behind a good beginning, the one that judges the first line of the rest
 abbrev pub judgedAt : Beginning → List ℕ → ℕ
 judgedAt beginning rest = length (textOf beginning) + judgingByte longestLine rest
 
@@ -68,15 +68,15 @@ pub record ToldInPieces (pieces : List (List ℕ)) (outcomes : List Fed) : Type 
 abbrev pub Always : Reader → ToldFed → Type 0
 Always s told = (calls : List Call) (outcomes : List Fed) → Calls s calls outcomes → map toldFed outcomes ≡ replicate (length calls) told
 
--- these pieces lead to this reader, from the one before the first byte on
+-- Pieces lead to this reader, from the one before the first byte on. The end is no piece, so to a reader that has ended none lead.
 pub record Reached (s : Reader) : Type 0 where
   pub pieces : List (List ℕ)
-  pub bytes : areBytes (flatten pieces) ≡ true
+  pub small : areBytes (flatten pieces) ≡ true
   pub outcomes : List Fed
   pub given : Calls freshReader (map feed pieces) outcomes
   pub left : stateLeft (λ r. r .reader) freshReader outcomes ≡ s
 
--- what its type says of the bytes that a reader holds
+-- what the type of a reader's field `held` says of it
 pub record SixtyThreeBytes (held : List ℕ) : Type 0 where
   pub count : length held ≡ longestLine
-  pub bytes : areBytes held ≡ true
+  pub small : areBytes held ≡ true

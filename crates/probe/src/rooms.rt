@@ -9,7 +9,7 @@ pub const LINE: usize = 262144;
 // What `io::buffer` has: the bytes of a line of twice as many, or the digits of half as many bytes.
 pub const SMALL: usize = 4096;
 
-// The most bytes of an argument but a log. `io::large_buffer` has room for their digits.
+// The most bytes of an argument but a log or a piece of one. `io::large_buffer` has room for their digits.
 pub const MOST_BYTES: usize = 32768;
 
 pub(crate) fn for_line() -> [u8; LINE] {

@@ -6,7 +6,7 @@ mod channel;
 mod groups;
 pub mod logs;
 pub mod patterns;
-mod pieces;
+pub mod pieces;
 mod repeats;
 mod survey;
 mod writers;
@@ -46,7 +46,7 @@ pub const MAKERS: [(&str, Maker); 18] = [
 ];
 
 /// Short scripts come several at a time, or the long ones would leave no room for them.
-fn several(count: usize, round: usize, script: impl Fn(usize) -> Vec<Case>) -> Vec<Case> {
+fn several<T>(count: usize, round: usize, script: impl Fn(usize) -> Vec<T>) -> Vec<T> {
     (0..count).flat_map(|i| script(count * round + i)).collect()
 }
 

@@ -4,7 +4,7 @@
 
 use super::logs::{good_lines, logs, slot_line};
 use super::survey::{any_counts, counts_of, counts_of_slots, good_counts, IMPOSSIBLE};
-use super::Case;
+use super::{several, Case};
 use crate::notation::{Line, LONGEST_CASE};
 use crate::random::Random;
 use crate::reader::{Phase, Reader, MOST_HELD};
@@ -89,16 +89,18 @@ pub fn end(random: &Random, index: usize) -> Vec<Case> {
     scripts.flat_map(|script| script.ends).collect()
 }
 
+/// The same for both commands: the ends are those of the pieces that are fed.
 fn scripts(random: &Random, index: usize) -> Vec<Script> {
+    let random = &random.row_of("pieces", index);
     let round = index / 16;
     match index % 16 {
         11 if round % 2 == 0 => vec![byte_by_byte(random, round / 2)],
-        11 => several(2, round, |_| from_any_reader(random)),
-        12 => several(8, round, |round| broken(random, round)),
-        13 => several(2, round, |round| last_slots(random, round)),
-        14 => several(2, round, |round| afterwards(random, round)),
+        11 => several(2, round, |_| vec![from_any_reader(random)]),
+        12 => several(8, round, |round| vec![broken(random, round)]),
+        13 => several(2, round, |round| vec![last_slots(random, round)]),
+        14 => several(2, round, |round| vec![afterwards(random, round)]),
         15 if round % 100 == 1 => vec![filled_line(random)],
-        15 => several(4, round, |_| from_any_reader(random)),
+        15 => several(4, round, |_| vec![from_any_reader(random)]),
         // All others go through the very logs of the command `log`, in their order.
         kind => {
             let number = 11 * round + kind;
@@ -108,10 +110,6 @@ fn scripts(random: &Random, index: usize) -> Vec<Script> {
                 .collect()
         }
     }
-}
-
-fn several(count: usize, round: usize, script: impl Fn(usize) -> Script) -> Vec<Script> {
-    (0..count).map(|i| script(count * round + i)).collect()
 }
 
 fn in_pieces(random: &Random, log: &[u8]) -> Script {
@@ -366,7 +364,8 @@ fn broken(random: &Random, round: usize) -> Script {
     script
 }
 
-fn column(counts: &mut Counts, number: usize) -> &mut u32 {
+/// One of the seven counts of slots.
+pub fn column(counts: &mut Counts, number: usize) -> &mut u32 {
     match number % 7 {
         0 => &mut counts.slots,
         1 => &mut counts.read,

@@ -3,9 +3,9 @@
 use super::survey::{all_small_counts, columns, counts_of_small_logs, log_of};
 use super::{expect, expect_equal, Outcome};
 use crate::answers::{BAD_LINE, OUTSIDE_RULE};
-use crate::cases::{good_counts, logs::logs};
+use crate::cases::{good_counts, logs::logs, pieces::column};
 use crate::random::Random;
-use crate::reader::{Phase, Reader, Refusal, Tally, MOST_HELD};
+use crate::reader::{NotTaken, Phase, Reader, Tally, MOST_HELD};
 use crate::survey::{read_log, Counts, LONGEST_LINE, MOST_SLOTS};
 use std::collections::HashSet;
 
@@ -32,7 +32,7 @@ fn open_after(log: &[u8]) -> Reader {
 fn expect_as_whole(log: &[u8], cuts: &[usize]) -> Outcome {
     let (counts, bad_line) = read_log(log);
     let judged = bad_line.and_then(|line| judged_at(log, line));
-    let refusal: Option<Refusal> = bad_line.map(|line| (BAD_LINE, line as u32));
+    let refusal: Option<NotTaken> = bad_line.map(|line| (BAD_LINE, line as u32));
     let refused = Reader::between_lines(Phase::Refused, counts.clone());
     let mut reader = Reader::start();
     let mut start = 0;
@@ -284,16 +284,8 @@ fn counts_by_one() -> Outcome {
     for _ in 0..20_000 {
         let mut counts = good_counts(&random);
         let change = random.pick(&[0, 1, u32::MAX, 1 << 31]);
-        let column = match random.below(7) {
-            0 => &mut counts.slots,
-            1 => &mut counts.read,
-            2 => &mut counts.clean,
-            3 => &mut counts.bits,
-            4 => &mut counts.noword,
-            5 => &mut counts.check,
-            _ => &mut counts.missing,
-        };
-        *column = column.wrapping_add(change);
+        let count = column(&mut counts, random.below(7));
+        *count = count.wrapping_add(change);
         let wanted = counts.come_from_a_log();
         let reader = Reader::between_lines(Phase::Refused, counts);
         expect(is_taken(&reader) == wanted, || format!("{reader:?}"))?;

@@ -16,7 +16,7 @@ came : (s : Reader) (end : Fed) → Reached s → toldFed end ≡ endOf s → Ca
 came s end r e =
     record {
       bytes = flatten (r .pieces);
-      small = r .bytes;
+      small = r .small;
       read = sym (reached-end s r) ∙ ap wholeOf (sym e);
     }
 
