@@ -11,6 +11,10 @@ static void take(char task, const u8 *record);
 // Adds the state that is left at the end to the sum.
 static void add_state(void);
 
+static void add_bytes(const u8 *bytes, long length) {
+    for (long i = 0; i < length; i++) add_number(bytes[i]);
+}
+
 int main(int argc, char **argv) {
     if (argc != 3) return 2;
     long left = number_in(argv[2]), length = read_records(), at = 0;

@@ -16,10 +16,6 @@ static inline void add_number(u64 number) {
     sum = (sum * 31 + number) % 4294967296;
 }
 
-static void add_bytes(const u8 *bytes, long length) {
-    for (long i = 0; i < length; i++) add_number(bytes[i]);
-}
-
 static long read_records(void) {
     long length = 0, got;
     while (length < ROOM && (got = read(0, records + length, ROOM - length)) > 0) length += got;
