@@ -5,16 +5,17 @@ use mathlib.Core.Bool.{true, false}
 use mathlib.Core.List.{List, _∷_}
 use native.Mathlib.Numerals.{add-one}
 use native.Mathlib.Omega.{arith}
-use lib.ListN.{length, getD, take, drop, drop-of-length-le}
+use lib.ListN.{length, getD, take, drop, set, drop-of-length-le}
 use lib.Seq.{drop-cons}
+use borrow.Author.Tests.{eq-eqb, ne-eqb, lt-ltb}
 use Rattle.log.specs.declared.Counts.{Counts}
 use Rattle.log.specs.declared.Reader.{Reader}
-use Rattle.log.specs.declared.Phase.the-variants.{Open}
-use Rattle.log.specs.Log.{counted}
-use Rattle.log.specs.Reader.{between, openStep, isOpen, afterByte, run, isBefore}
+use Rattle.log.specs.declared.Phase.the-variants.{Open, Refused}
+use Rattle.log.specs.Log.{counted, judged}
+use Rattle.log.specs.Reader.{between, afterLine, openStep, isOpen, afterByte, run, isBefore}
 use Rattle.log.specs.Machine.{Goes, NextSlot}
 use Rattle.log.proofs.Written.{slot-run, slot-before}
-use Rattle.log.proofs.Runs.{run-none, run-cons, run-shut, between-ruled, open-held, heldOf, Kept, step-kept}
+use Rattle.log.proofs.Runs.{run-none, run-cons, run-shut, between-ruled, opened, open-held, heldOf, Kept, step-kept}
 
 pub goes-start : (piece : List ℕ) (s : Reader) (i : ℕ) → Kept s → i ≤ length piece → Goes piece s i s i
 goes-start piece s i k h = record { same = refl; rule = k .0; full = k .1; on = omega arith; within = h }
@@ -54,6 +55,40 @@ goes-byte piece s i k o h =
       on = omega arith;
       within = omega arith;
     }
+
+-- an open reader, by its fields
+abbrev pub openWith : Counts → List ℕ → ℕ → Reader
+openWith c held n = record { phase = Open; counts = c; held = held; length = n }
+
+opened-with : (s : Reader) → isOpen (s .phase) ≡ true → s ≡ openWith (s .counts) (s .held) (s .length)
+opened-with s o = let p = opened (s .phase) o in λ i. record { phase = p i; counts = s .counts; held = s .held; length = s .length }
+
+pub goes-open : (piece : List ℕ) (s : Reader) (i : ℕ) → Kept s → isOpen (s .phase) ≡ true → i ≤ length piece
+    → Goes piece (openWith (s .counts) (s .held) (s .length)) i (openWith (s .counts) (s .held) (s .length)) i
+goes-open piece s i k o h = goes-start piece _ i (subst Kept (opened-with s o) k) h
+
+pub goes-opened : (piece : List ℕ) (s t : Reader) (i j : ℕ) → isOpen (s .phase) ≡ true → Goes piece (openWith (s .counts) (s .held) (s .length)) i t j → Goes piece s i t j
+goes-opened piece s t i j o g = subst (λ (r : Reader). Goes piece r i t j) (sym (opened-with s o)) g
+
+-- a byte more of its line
+pub goes-further : (piece : List ℕ) (s t : Reader) (c : Counts) (held : List ℕ) (n i j : ℕ) → Goes piece s i (openWith c held n) j → j < length piece
+    → openStep (openWith c held n) (getD piece j 0) ≡ t → Goes piece s i t (j + 1)
+goes-further piece s t c held n i j g h e =
+    goes-on piece s (openWith c held n) t i j (j + 1) g
+    (subst (λ (r : Reader). Goes piece (openWith c held n) j r (j + 1)) e (goes-byte piece (openWith c held n) j (g .rule, g .full) refl h))
+
+-- which is held, or at which the line is judged
+pub step-holds : (c : Counts) (held : List ℕ) (n b : ℕ) → (b ≡ 10 → ⊥) → n < 63 → openStep (openWith c held n) b ≡ openWith c (set held n b) (n + 1)
+unfolding openStep
+step-holds c held n b e h = rw (ne-eqb b 10 e, lt-ltb n 63 h)
+
+pub step-judges : (c : Counts) (held : List ℕ) (n b : ℕ) → b ≡ 10 → openStep (openWith c held n) b ≡ afterLine (judged c (take n held))
+unfolding openStep
+step-judges c held n b e = rw (eq-eqb b 10 e)
+
+pub step-refuses : (c : Counts) (held : List ℕ) (n b : ℕ) → (b ≡ 10 → ⊥) → n ≡ 63 → openStep (openWith c held n) b ≡ between Refused c
+unfolding openStep
+step-refuses c held n b e h = rw (ne-eqb b 10 e, h)
 
 -- the rest of a piece, after a refusal
 pub goes-shut : (piece : List ℕ) (s : Reader) (i : ℕ) → Kept s → isOpen (s .phase) ≡ false → i ≤ length piece → Goes piece s i s (length piece)

@@ -135,7 +135,7 @@ small Ended n h = absurd (false≢true h)
 pub reader-small : (s : Reader) → isReader s ≡ true → s .length ≤ 63
 reader-small s e = small (s .phase) (s .length) (ruled s e .holding)
 
-opened : (p : Phase) → isOpen p ≡ true → p ≡ Open
+pub opened : (p : Phase) → isOpen p ≡ true → p ≡ Open
 opened Open e = refl
 opened Refused e = absurd (false≢true e)
 opened Ended e = absurd (false≢true e)

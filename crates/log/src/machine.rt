@@ -5,7 +5,8 @@ ghost use mathlib.Core.Path.{_≡_};
 ghost use mathlib.Core.Bool.{true, not};
 ghost use Prim.Native.Nat.{_≤_, _<_};
 ghost use lib.ListN.{length};
-ghost use Rattle.log.specs.Reader.{longestLine, between, openStep, isOpen, isBefore, isReader};
+ghost use Rattle.log.specs.Log.{isSound, judged};
+ghost use Rattle.log.specs.Reader.{longestLine, between, afterLine, isOpen, isBefore, isReader};
 ghost use Rattle.log.specs.Machine.{Goes};
 ghost use Rattle.log.specs.Reader.{run as Reader·run};
 use crate::Counts;
@@ -71,10 +72,7 @@ fn take_turn(reader: Reader, piece: &[u8], from: usize) -> Turn
             return turn;
         }
     }
-    Turn {
-        reader: open_step(reader, piece[from]),
-        at: from + 1,
-    }
+    take_line(reader, piece, from)
 }
 
 pub(crate) fn is_refused(phase: Phase) -> bool
@@ -112,30 +110,56 @@ fn whole_lines(counts: Counts, piece: &[u8], from: usize) -> Turn
     }
 }
 
-fn open_step(reader: Reader, byte: u8) -> Reader
+// Takes the bytes of a line up to the one at which it is judged, or all that there are.
+fn take_line(reader: Reader, piece: &[u8], from: usize) -> Turn
     requires { ⌜ isReader reader ≡ true ⌝ }
-    ensures { λ r. ⌜ r ≡ openStep reader byte ⌝ }
+    requires { ⌜ isOpen (reader .phase) ≡ true ⌝ }
+    requires { ⌜ length (reader .held) ≡ longestLine ⌝ }
+    requires { ⌜ from < length (now piece) ⌝ }
+    ensures { λ r. ⌜ Goes (now (piece .entry)) reader from (r .reader) (r .at) ⌝ }
+    ensures { λ r. ⌜ from < r .at ⌝ }
 {
     let counts = reader.counts;
-    let held = reader.held;
-    let at = reader.length;
-    if byte == b'\n' {
-        let judged = line::judge(counts, &held[..at]);
-        let after = judged.counts;
-        if judged.good {
-            return between_lines(Phase::Open, after);
+    let mut held = reader.held;
+    let mut count = reader.length;
+    let mut at = from;
+    while at < piece.len() {
+        let byte = piece[at];
+        if byte == b'\n' {
+            return Turn {
+                reader: after_line(counts, &held[..count]),
+                at: at + 1,
+            };
         }
-        return between_lines(Phase::Refused, after);
+        if count == LONGEST_LINE {
+            return Turn {
+                reader: between_lines(Phase::Refused, counts),
+                at: at + 1,
+            };
+        }
+        held[count] = byte;
+        count += 1;
+        at += 1;
     }
-    if at < LONGEST_LINE {
-        let mut more = held;
-        more[at] = byte;
-        return Reader {
+    Turn {
+        reader: Reader {
             phase: Phase::Open,
             counts,
-            held: more,
-            length: at + 1,
-        };
+            held,
+            length: count,
+        },
+        at,
     }
-    between_lines(Phase::Refused, counts)
+}
+
+fn after_line(counts: Counts, line: &[u8]) -> Reader
+    requires { ⌜ isSound counts ≡ true ⌝ }
+    ensures { λ r. ⌜ r ≡ afterLine (judged counts (now (line .entry))) ⌝ }
+{
+    let judged = line::judge(counts, line);
+    let after = judged.counts;
+    if judged.good {
+        return between_lines(Phase::Open, after);
+    }
+    between_lines(Phase::Refused, after)
 }

@@ -1,5 +1,5 @@
 use Rattle.log.specs.Reader.{isOpen}
-use Rattle.log.proofs.Goes.{goes-byte, goes-shut, open-between}
+use Rattle.log.proofs.Goes.{goes-shut, open-between}
 use Rattle.log.proofs.Runs.{ruled}
 use Rattle.log.specs.Machine.{Goes}
 use Rattle.log.specs.declared.Reader.{Reader}
@@ -7,7 +7,6 @@ use borrow.Author.Tests.{not-true, not-false}
 use mathlib.Core.Path.{sym, _∙_, subst}
 use native.Mathlib.Omega.{arith}
 use denote.Ref.{now}
-use borrow.Author.Needs.{needs}
 use Rattle.log.proofs.machine.take_turn.Statement.{statement}
 use Rattle.log.proofs.machine.take_turn.Tie as tie
 
@@ -33,19 +32,14 @@ returns-2 c =
       c .if3 .taken,
     )
 
-shared-slice-read-open-step : tie.Need-shared-slice-read-open-step
-shared-slice-read-open-step c = search needs
-
-open-step-requires : tie.Need-open-step-requires
-open-step-requires c κs = search needs
-
-add-t14 : tie.Need-add-t14
-add-t14 c = search needs
+take-line-requires : tie.Need-take-line-requires
+take-line-requires c κs =
+    let a = c .before .before .before .before .before .before in
+    let o = not-false (isOpen (a .args .reader .phase)) (sym (c .before .before .before .is-refused .ensures) ∙ c .before .before .if1 .left) in
+    (a .pre .0, (o, a .pre .1))
 
 returns-3 : tie.Need-returns-3
-returns-3 c =
-    let s = c .before .before .before .before .before .before .before .before .args .reader in let o = not-false (isOpen (s .phase)) (sym (c .before .before .before .before .before .is-refused .ensures) ∙ c .before .before .before .before .if1 .left) in
-    (rw (c .open-step .ensures) (goes-byte _ s (c .before .before .before .before .before .before .before .before .args .from) (c .before .before .before .before .before .before .before .before .pre .0, c .before .before .before .before .before .before .before .before .pre .1 .0) o (c .before .before .before .before .before .before .before .before .pre .1 .1)), omega arith)
+returns-3 c = c .take-line .ensures
 
 pub take-turn-spec : {M : Type 1} → statement M
 take-turn-spec =
@@ -55,7 +49,5 @@ take-turn-spec =
     returns
     whole-lines-requires
     returns-2
-    shared-slice-read-open-step
-    open-step-requires
-    add-t14
+    take-line-requires
     returns-3)
