@@ -1,6 +1,5 @@
 // Standard input and the sum over answers, as crates/bench has them. No header of C's library is used.
 typedef unsigned char u8;
-typedef unsigned short u16;
 typedef unsigned int u32;
 typedef unsigned long long u64;
 long read(int, void *, unsigned long);

@@ -1,4 +1,5 @@
-// A log in pieces through one reader: where the log ends its reader does, and another starts from the first byte again.
+// A log in pieces, again and again: each piece goes to the reader that the one before left; where the log ends its reader
+// does, and another starts from the first byte.
 ghost use Prim.Native.Nat.{_≤_};
 use crate::records;
 use answers::Answer;
@@ -41,7 +42,7 @@ fn piece_end(at: usize, size: usize, length: usize) -> usize
     }
 }
 
-// The line that was refused, or else the bytes held.
+// The refusal's number and the line, or else the bytes held.
 fn told(sum: u64, answer: Answer, line: u32, held: usize) -> u64 {
     match answer {
         Answer::Accepted => records::add(sum, held as u64),

@@ -41,7 +41,7 @@ goes-slot piece c i j b w k =
     }
 
 -- a byte
-pub goes-byte : (piece : List ℕ) (s : Reader) (i : ℕ) → Kept s → isOpen (s .phase) ≡ true → i < length piece
+goes-byte : (piece : List ℕ) (s : Reader) (i : ℕ) → Kept s → isOpen (s .phase) ≡ true → i < length piece
     → Goes piece s i (openStep s (getD piece i 0)) (i + 1)
 unfolding afterByte
 goes-byte piece s i k o h =

@@ -1,5 +1,5 @@
 -- The rule of a reader admits exactly the readers that pieces lead to. Assumes nothing.
-use Prim.Native.Nat.{ℕ, _+_}
+use Prim.Native.Nat.{ℕ}
 use mathlib.Core.Path.{_≡_, refl, ap, sym, _∙_, subst}
 use mathlib.Core.Bool.{Bool, true, false, cond, and-eq-true-iff}
 use mathlib.Core.List.{List, [], _∷_, _++_, append-assoc, append-nil, map, flatten}
@@ -28,7 +28,7 @@ use Rattle.log.specs.Pieces.{Call, feed, end, callOf, Calls, Always, Rea
 use Rattle.log.proofs.Lists.{by-cases}
 use Rattle.log.proofs.Sound.{sound}
 use Rattle.log.proofs.Runs.{run-none, run-hold, over-run, heldOf, lineOf, ruled, reader-small, open-held, refused-between, Kept, run-kept, fresh-kept}
-use Rattle.log.proofs.Beginnings.{good, good-is, begin-run}
+use Rattle.log.proofs.Beginnings.{good-is, begin-run}
 use Rattle.log.proofs.Bytes.{begin-bytes}
 use Rattle.log.proofs.Exact.{no-slots, outcomes-of}
 use Rattle.log.proofs.Pieces.{taken, fed-reader, end-tells}

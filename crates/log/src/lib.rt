@@ -1,5 +1,5 @@
-// The reader of a reception log (document 01, "The log and its report"): a machine over bytes with its state by value, for a whole
-// log at once or for one that comes in pieces.
+// The reader of a reception log (document 01, "The log and its report"; document 02, ticket 4): a machine over bytes with its state by
+// value, for a whole log at once or for one that comes in pieces.
 mod count;
 mod line;
 mod machine;
@@ -88,7 +88,7 @@ pub fn start() -> Reader
 }
 
 // Takes a piece of a log, cut anywhere. Refused: 11 for a reader that has ended or is outside its rule, which stays as it is; 12 at the
-// first bad line, with its number and the counts before it, and from then on for every piece.
+// first bad line, with its number and the counts before it, and from then on for every piece and the end.
 pub fn feed(reader: Reader, piece: &[u8]) -> Fed
     ensures { λ r. ⌜ toldFed r ≡ fedOf reader (now (piece .entry)) ⌝ }
 {

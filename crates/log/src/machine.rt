@@ -1,6 +1,7 @@
 // The machine over bytes. A line is recognised in two ways. Byte by byte it is held, and judged at its line feed (line.rt): so a line
-// that is cut, the first line and every bad one. For speed a good slot's line that lies whole in the piece, where nine bytes or more
-// are left of it, is read forward where it stands (slot.rt). `Goes` ties the two: either leads to the reader that `run` leads to.
+// that is cut, the first line, every bad one and one near the piece's end. For speed a good slot's line that lies whole in the piece,
+// where nine bytes or more are left of it, is read forward where it stands (slot.rt). `Goes` ties the two: either leads to the reader
+// that `run` leads to.
 ghost use mathlib.Core.Path.{_≡_};
 ghost use mathlib.Core.Bool.{true, not};
 ghost use Prim.Native.Nat.{_≤_, _<_};
@@ -50,7 +51,8 @@ pub(crate) fn run(reader: Reader, piece: &[u8]) -> Reader
     now
 }
 
-// Takes whole lines where one starts, or else a byte. After a refusal the rest of the piece plays no part.
+// Takes the good lines of slots that start here and stand whole in the piece, or else the bytes of one line. After a refusal the rest
+// of the piece plays no part.
 fn take_turn(reader: Reader, piece: &[u8], from: usize) -> Turn
     requires { ⌜ isReader reader ≡ true ⌝ }
     requires { ⌜ length (reader .held) ≡ longestLine ⌝ }
