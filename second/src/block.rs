@@ -6,7 +6,7 @@ use crate::rows::{from_block, is_multiple, to_block, with_remainder, Row, CHECK,
 
 pub const BLOCK_BYTES: usize = 34;
 pub const INFORMATION_BYTES: usize = 22;
-const INFORMATION_AND_CHECK: usize = 190;
+pub const INFORMATION_AND_CHECK: usize = 190;
 
 const WORD_BITS: usize = 64;
 const WORDS: usize = 5;

@@ -17,17 +17,21 @@
 //! exactly the wrong positions. Nothing here asks for luck: it holds for every pattern of at most
 //! eight places.
 //!
+//! The row's values are taken from its remainder by the generator, which is shorter and, B^j being
+//! a root of the generator, has the same ones. No remainder means that the row is a code word, and
+//! there is nothing to look for; the values alone would not tell, the generator having more roots.
+//!
 //! Why nothing else is taken. Whatever the roots were, the changed row is handed back only if at
 //! most eight of its 272 positions were changed and long division finds it a multiple of the
 //! generator. The left-off 273rd place is never among the positions tried.
 
 use crate::field::{degree, sum, Field};
-use crate::rows::{is_multiple, Row, PARITY};
+use crate::rows::{is_multiple, remainder, Row, PARITY};
 use std::sync::OnceLock;
 
 pub const POSITIONS: usize = 272;
 pub const LONG_POSITIONS: usize = 273;
-const MOST_CHANGES: usize = 8;
+pub const MOST_CHANGES: usize = 8;
 const SYNDROMES: usize = 2 * MOST_CHANGES;
 
 pub struct Algebra {
@@ -114,8 +118,12 @@ pub fn is_code_word(row: &[bool]) -> bool {
 /// The code word within eight places of a row of 272 bits, and the places that were changed, the
 /// lowest first.
 pub fn nearest_word(received: &[bool]) -> Option<(Row, Vec<usize>)> {
+    let rest = remainder(received, &PARITY);
+    if rest.iter().all(|bit| !bit) {
+        return Some((received.to_vec(), Vec::new()));
+    }
     let algebra = algebra();
-    let places = algebra.places(&algebra.locator(algebra.syndromes(received)));
+    let places = algebra.places(&algebra.locator(algebra.syndromes(&rest)));
     let mut row = received.to_vec();
     for place in &places {
         row[*place] ^= true;

@@ -45,18 +45,29 @@ impl Field {
         self.power(self.logarithms[a as usize] + NONZERO - self.logarithms[b as usize])
     }
 
-    /// The value of a row of bits, the highest power first.
+    /// The value of a row of bits, the highest power first, at an element other than zero.
     pub fn value_of_row(&self, row: &[bool], at: u16) -> u16 {
+        let step = self.logarithms[at as usize];
         row.iter()
-            .fold(0, |value, bit| self.times(value, at) ^ u16::from(*bit))
+            .rev()
+            .enumerate()
+            .filter(|(_, bit)| **bit)
+            .fold(0, |value, (exponent, _)| {
+                value ^ self.power(step * exponent)
+            })
     }
 
-    /// The value of a polynomial over the field, the lowest power first.
+    /// The value of a polynomial over the field, the lowest power first, at an element other than
+    /// zero. Term by term: Horner's rule would have each product wait for the one before.
     pub fn value(&self, polynomial: &[u16], at: u16) -> u16 {
+        let step = self.logarithms[at as usize];
         polynomial
             .iter()
-            .rev()
-            .fold(0, |value, coefficient| self.times(value, at) ^ coefficient)
+            .enumerate()
+            .filter(|(_, coefficient)| **coefficient != 0)
+            .fold(0, |value, (exponent, coefficient)| {
+                value ^ self.power(self.logarithms[*coefficient as usize] + step * exponent)
+            })
     }
 
     pub fn product(&self, a: &[u16], b: &[u16]) -> Vec<u16> {

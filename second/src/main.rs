@@ -10,6 +10,7 @@ mod channel;
 mod corrector;
 mod decimal;
 mod field;
+mod frame;
 mod group;
 mod message;
 mod notation;

@@ -4,6 +4,7 @@
 use crate::answers::{BAD_LINE, OUTSIDE_RULE};
 use crate::block::{self, Changes, Refusal};
 use crate::channel::{Channel, Step};
+use crate::frame;
 use crate::group::{Group, Join};
 use crate::message::{self, Fill, MessageHeader};
 use crate::notation::{Arguments, Line, LONGEST_CASE};
@@ -12,10 +13,11 @@ use crate::survey::{self, Summary};
 
 type Command = fn(&mut Arguments) -> Option<Line>;
 
-const COMMANDS: [(&str, Command); 18] = [
+const COMMANDS: [(&str, Command); 19] = [
     ("correct", correct),
     ("read-block", read_block),
     ("write-block", write_block),
+    ("frame", frame),
     ("new-channel", new_channel),
     ("step", step),
     ("write-message", write_message),
@@ -81,6 +83,16 @@ fn write_block(arguments: &mut Arguments) -> Option<Line> {
     arguments.end()?;
     let result = block::write_block(&information, &mut output);
     Some(Line::answer("block", &result).bytes(&output))
+}
+
+fn frame(arguments: &mut Arguments) -> Option<Line> {
+    let mut buffer = arguments.bytes()?;
+    arguments.end()?;
+    let result = frame::correct(&mut buffer);
+    let line = Line::answer("frame", &result);
+    let refused = result.unwrap_or_default();
+    let counted = line.count(refused.rows).count(refused.columns);
+    Some(counted.bytes(&buffer))
 }
 
 fn new_channel(arguments: &mut Arguments) -> Option<Line> {

@@ -4,7 +4,8 @@
 //! place is never wrong. So one of the places of any failing sum must be changed: all are tried.
 //! A place stands in seventeen sums, so with n changes left at most 17 n sums may fail; that
 //! bound cuts the tree down to some thousand tries. Every row of at most eight wrong places is
-//! reached, because on the way to its word each failing sum offers one of them.
+//! reached, because on the way to its word each failing sum offers one of them. No change is tried
+//! before one, one before two and so on: the fewer may follow, the more the bound cuts off.
 
 use crate::cases::patterns::parity_sum;
 use crate::corrector::{is_code_word, LONG_POSITIONS, POSITIONS};
@@ -62,11 +63,12 @@ impl Sums {
         let count = failing.iter().filter(|fails| **fails).count();
         let mut search = Search {
             sums: self,
+            most: 0,
             failing,
             count,
             changed: Vec::new(),
         };
-        if !search.reaches_a_word() {
+        if !(0..=MOST_CHANGES).any(|most| search.reaches_a_word_within(most)) {
             return None;
         }
         let mut row = received.to_vec();
@@ -81,6 +83,8 @@ impl Sums {
 
 struct Search<'a> {
     sums: &'a Sums,
+    /// How many changes there may be.
+    most: usize,
     failing: Vec<bool>,
     /// How many fail.
     count: usize,
@@ -88,8 +92,13 @@ struct Search<'a> {
 }
 
 impl Search<'_> {
+    fn reaches_a_word_within(&mut self, most: usize) -> bool {
+        self.most = most;
+        self.reaches_a_word()
+    }
+
     fn reaches_a_word(&mut self) -> bool {
-        if self.count > SUMS_OF_A_PLACE * (MOST_CHANGES - self.changed.len()) {
+        if self.count > SUMS_OF_A_PLACE * (self.most - self.changed.len()) {
             return false;
         }
         let Some(failing) = self.failing.iter().position(|fails| *fails) else {

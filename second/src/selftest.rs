@@ -2,6 +2,7 @@
 //! register beside the long division, Rust's own numbers beside the written ones.
 
 mod blocks;
+mod frames;
 mod lines;
 mod messages;
 mod reader;
@@ -10,7 +11,7 @@ mod survey;
 /// Nothing, or what was found wrong.
 type Outcome = Result<(), String>;
 
-const TESTS: [(&str, fn() -> Outcome); 26] = [
+const TESTS: [(&str, fn() -> Outcome); 31] = [
     ("the field multiplies as polynomials do", blocks::field),
     ("the generator has seventeen roots in a row", blocks::roots),
     (
@@ -32,6 +33,17 @@ const TESTS: [(&str, fn() -> Outcome); 26] = [
     ("the corrector agrees with a search", blocks::search),
     ("patterns that fool a vote are refused", blocks::votes),
     ("the published block is written and read", blocks::published),
+    (
+        "a frame's rows and columns are words in either order",
+        frames::product_frames,
+    ),
+    (
+        "eight bad rows leave the sent frame",
+        frames::eight_bad_rows,
+    ),
+    ("nine bad rows can leave another", frames::nine_bad_rows),
+    ("frames agree with a search", frames::search),
+    ("another length is no frame", frames::lengths),
     ("headers have the published bytes", messages::published),
     ("messages read back", messages::messages_read_back),
     ("groups read back", messages::groups_read_back),

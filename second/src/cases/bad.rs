@@ -1,6 +1,7 @@
 //! Lines that are no cases: a good case with something done to it that no reading forgives.
 
 use super::{Case, MAKERS};
+use crate::frame::FRAME_BYTES;
 use crate::notation::{Line, LONGEST_ARGUMENT, LONGEST_CASE};
 use crate::random::Random;
 use crate::reader::{Reader, MOST_HELD};
@@ -209,14 +210,17 @@ const OTHER_PHASES: [&[u8]; 10] = [
     b".",
 ];
 
-/// A byte argument with half a byte too many: the last one of a block command or of the log.
+/// A byte argument with half a byte too many: the last one of a block command, or a frame.
 fn odd_digits(random: &Random) -> Case {
-    let name = random.pick(&["correct", "read-block", "write-block"]);
-    let length = random.between(0, 40);
-    let mut case = Line::new(name)
-        .bytes(&random.bytes(34))
-        .bytes(&random.bytes(length + 1))
-        .done();
+    let name = random.pick(&["correct", "read-block", "write-block", "frame"]);
+    let (line, length) = match name {
+        "frame" => (Line::new(name), FRAME_BYTES),
+        _ => (
+            Line::new(name).bytes(&random.bytes(34)),
+            random.between(1, 41),
+        ),
+    };
+    let mut case = line.bytes(&random.bytes(length)).done();
     case.pop();
     case
 }
@@ -251,6 +255,9 @@ fn over_a_limit(random: &Random, round: usize) -> Case {
             .done(),
         4 => state(0).text("waiting").number(0u8).bytes(&[0; 22]).done(),
         5 => state(260).text("Ready").number(0u8).bytes(&[0; 22]).done(),
+        6 => Line::new("frame")
+            .bytes(&vec![0; LONGEST_ARGUMENT + 1])
+            .done(),
         11 if round % 36 == 11 => Line::new("log")
             .bytes(&random.bytes(LONGEST_CASE / 2 + 100))
             .done(),

@@ -99,12 +99,7 @@ fn part_of_least_word(random: &Random, mut row: Row) -> Row {
         true => random.between(8, 10),
         false => random.between(0, places.len()),
     };
-    let part: Vec<usize> = random
-        .some_below(kept, places.len())
-        .iter()
-        .map(|place| places[*place])
-        .collect();
-    flip(&mut row, &part);
+    flip(&mut row, &some_of(random, &places, kept));
     row
 }
 

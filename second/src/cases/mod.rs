@@ -3,6 +3,8 @@
 mod bad;
 mod blocks;
 mod channel;
+pub mod damage;
+mod frames;
 mod groups;
 pub mod logs;
 pub mod patterns;
@@ -24,10 +26,11 @@ pub type Case = Vec<u8>;
 /// number, so that a few dozen cases hold one of each.
 type Maker = fn(&Random, usize) -> Vec<Case>;
 
-pub const MAKERS: [(&str, Maker); 18] = [
+pub const MAKERS: [(&str, Maker); 19] = [
     ("correct", blocks::correct),
     ("read-block", blocks::read_block),
     ("write-block", blocks::write_block),
+    ("frame", frames::frame),
     ("new-channel", channel::new_channel),
     ("step", channel::step),
     ("write-message", writers::write_message_cases),
@@ -60,6 +63,18 @@ pub fn makers(word: &str) -> Vec<(&'static str, Maker)> {
         .filter(|maker| word == "all" || word == maker.0)
         .copied()
         .collect()
+}
+
+/// A frame has 272 blocks: where all commands are asked for, it has one line for so many of the
+/// others.
+const LINES_TO_A_FRAME: usize = 20;
+
+/// How many lines a command has among all.
+pub fn among_all(name: &str, count: usize) -> usize {
+    match name {
+        "frame" => count.div_ceil(LINES_TO_A_FRAME),
+        _ => count,
+    }
 }
 
 /// So many lines of the command; without arguments there is only one case.
@@ -106,7 +121,11 @@ fn in_some_digits(random: &Random, case: &[u8]) -> Case {
 
 pub fn write(word: &str, count: usize, seed: u64, output: &mut impl Write) -> io::Result<()> {
     for maker in makers(word) {
-        make(&maker, count, seed, &mut |case| {
+        let lines = match word {
+            "all" => among_all(maker.0, count),
+            _ => count,
+        };
+        make(&maker, lines, seed, &mut |case| {
             output.write_all(case)?;
             output.write_all(b"\n")
         })?;

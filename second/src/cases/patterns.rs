@@ -70,6 +70,12 @@ pub fn turned(random: &Random, pattern: &[usize]) -> Vec<usize> {
     }
 }
 
+/// So many of a pattern's powers.
+pub fn some_of(random: &Random, pattern: &[usize], count: usize) -> Vec<usize> {
+    let chosen = random.some_below(count, pattern.len());
+    chosen.iter().map(|number| pattern[*number]).collect()
+}
+
 pub fn flip(row: &mut Row, powers: &[usize]) {
     for power in powers {
         row[POSITIONS - 1 - power] ^= true;

@@ -1,7 +1,7 @@
 //! The generator's cases and the answers to them, as lines.
 
 use super::{expect, expect_equal, Outcome};
-use crate::cases::{make, makers, Case};
+use crate::cases::{among_all, make, makers, Case};
 use crate::probe::{answer, BAD_CASE};
 
 const COUNT: usize = 600;
@@ -13,7 +13,8 @@ fn cases_of(word: &str, seed: u64) -> Result<Vec<Case>, String> {
             cases.push(case.to_vec());
             Ok(())
         };
-        make(&maker, COUNT, seed, &mut keep).map_err(|error| error.to_string())?;
+        make(&maker, among_all(maker.0, COUNT), seed, &mut keep)
+            .map_err(|error| error.to_string())?;
     }
     Ok(cases)
 }
@@ -75,6 +76,7 @@ pub fn refusals() -> Outcome {
         "correct",
         "read-block",
         "write-block",
+        "frame",
         "write-message",
         "join",
         "write-group",
