@@ -19,7 +19,9 @@ pub const READ_BLOCK: usize = CORRECT + COLUMNS;
 
 pub const WRITE_BLOCK: usize = READ_BLOCK + COLUMNS;
 
-pub const NEW_CHANNEL: usize = WRITE_BLOCK + COLUMNS;
+pub const FRAME: usize = WRITE_BLOCK + COLUMNS;
+
+pub const NEW_CHANNEL: usize = FRAME + COLUMNS;
 
 pub const STEP: usize = NEW_CHANNEL + COLUMNS;
 
@@ -57,6 +59,7 @@ pub(crate) fn read(line: &[u8], numbers: &mut [u64], given: &mut [u8], lent: &mu
     let table = b"correct\tio\t\
         read-block\tio\t\
         write-block\tio\t\
+        frame\to\t\
         new-channel\t\t\
         step\tcwpsi\t\
         write-message\tssffmffsio\t\

@@ -4,6 +4,7 @@ mod arguments;
 mod blocks;
 mod cases;
 mod floats;
+mod frames;
 mod groups;
 mod messages;
 mod put;
@@ -33,6 +34,7 @@ fn call(command: usize, numbers: &[u64], given: &[u8], lent: &mut [u8]) {
         cases::CORRECT => blocks::correct(given, lent),
         cases::READ_BLOCK => blocks::read_block(given, lent),
         cases::WRITE_BLOCK => blocks::write_block(given, lent),
+        cases::FRAME => frames::correct_frame(lent),
         cases::WRITE_MESSAGE => messages::write_message(numbers, given, lent),
         cases::JOIN => groups::join(numbers, given, lent),
         cases::WRITE_GROUP => groups::write_group(numbers, given, lent),

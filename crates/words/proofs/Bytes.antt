@@ -106,9 +106,9 @@ numbers-once width xs ys bx by l e =
 pub row-once : (xs ys : List ℕ) → areBytes xs ≡ true → areBytes ys ≡ true → length xs ≡ length ys → rowOf xs ≡ rowOf ys → xs ≡ ys
 row-once xs ys bx by = numbers-once 8 xs ys (byte-at xs bx) (byte-at ys by)
 
--- A BYTE MORE OF A WORD, the first lowest
-module _ (bytes : List ℕ) (at j w x : ℕ) (h : j < 8) (e : x ≡ getD bytes (at + j) 0) (small : x < 2 ^ 8)
-    (old : (k : ℕ) → k < 8 * j → bitOf w k ≡ bitIn 8 bytes (8 * at + k)) (none : (k : ℕ) → 8 * j ≤ k → bitOf w k ≡ false) where
+-- A BYTE MORE OF A WORD, the first lowest; `byte` tells which they are
+module _ (byte : ℕ → ℕ) (j w x : ℕ) (h : j < 8) (e : x ≡ byte j) (small : x < 2 ^ 8)
+    (old : (k : ℕ) → k < 8 * j → bitOf w k ≡ bitOf (byte (k / 8)) (k % 8)) (none : (k : ℕ) → 8 * j ≤ k → bitOf w k ≡ false) where
   with-byte : (k : ℕ) → bitOf (bitOr w (x * 2 ^ (8 * j) % 2 ^ 64)) k ≡ (bitOf w k || bitOf (x * 2 ^ (8 * j)) k)
   with-byte k = bitOf-or w (x * 2 ^ (8 * j) % 2 ^ 64) k ∙ ap (λ (n : ℕ). bitOf w k || bitOf n k) (shl-exact 8 (8 * j) 64 small (omega arith))
 
@@ -117,14 +117,14 @@ module _ (bytes : List ℕ) (at j w x : ℕ) (h : j < 8) (e : x ≡ getD bytes (
       let up : k ≡ 8 * j + (k - 8 * j) = omega arith in
       with-byte k ∙ (λ i. none k l i || (ap (bitOf (x * 2 ^ (8 * j))) up ∙ bitOf-shl x (8 * j) (k - 8 * j)) i)
 
-  pub byte-more : (k : ℕ) → k < 8 * (j + 1) → bitOf (bitOr w (x * 2 ^ (8 * j) % 2 ^ 64)) k ≡ bitIn 8 bytes (8 * at + k)
+  pub byte-more : (k : ℕ) → k < 8 * (j + 1) → bitOf (bitOr w (x * 2 ^ (8 * j) % 2 ^ 64)) k ≡ bitOf (byte (k / 8)) (k % 8)
   byte-more k l =
       elim (decLt k (8 * j)) [
         | yes g ↦ with-byte k ∙ ap (λ z. bitOf w k || z) (bitOf-shl-low x (8 * j) k g) ∙ or-false (bitOf w k) ∙ old k g
         | no g ↦
-            let q : at + j ≡ (8 * at + k) / 8 = omega arith in
-            let r : k - 8 * j ≡ (8 * at + k) % 8 = omega arith in
-            from-byte k (omega arith) ∙ (λ i. bitOf (e i) (k - 8 * j)) ∙ (λ i. bitOf (getD bytes (q i) 0) (r i))
+            let q : j ≡ k / 8 = omega arith in
+            let r : k - 8 * j ≡ k % 8 = omega arith in
+            from-byte k (omega arith) ∙ (λ i. bitOf (e i) (k - 8 * j)) ∙ (λ i. bitOf (byte (q i)) (r i))
       ]
 
   pub byte-none : (k : ℕ) → 8 * (j + 1) ≤ k → bitOf (bitOr w (x * 2 ^ (8 * j) % 2 ^ 64)) k ≡ false

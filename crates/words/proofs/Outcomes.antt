@@ -12,7 +12,7 @@ use lib.ListN.{length, getD, replicate, List·getD-eq-default}
 use lib.Seq.{ext-getD}
 use Rattle.gf2.specs.Poly.{_⊕_}
 use Rattle.gf2.proofs.Remainders.{add-twice, add-self, length-add}
-use Rattle.code.specs.Code.{CodeWord, difference, ones, mostCorrected}
+use Rattle.code.specs.Code.{CodeWord, difference, ones, distance, mostCorrected}
 use Rattle.code.specs.Vote.{bitAt, paritySums, voted}
 use Rattle.code.proofs.Majority.{length-voted, bit-voted}
 use Rattle.code.proofs.Accepted.{accepts}
@@ -84,6 +84,10 @@ ones-zeros : (n : ℕ) → ones (replicate n false) ≡ 0
 ones-zeros zero = refl
 ones-zeros (suc n) = omega (arith, ones-zeros n)
 
+-- it differs from itself nowhere
+pub distance-self : (row : List Bool) → distance row row ≡ 0
+distance-self row = ap ones (add-self row) ∙ ones-zeros (length row)
+
 module _ (row : List Bool) (l : length row ≡ 272) where
   -- the voted row is the row with the places changed that the vote turns, and these are its difference from the row
   voted-is : voted row ≡ difference row (turned (paritySums row))
@@ -104,7 +108,7 @@ module _ (row : List Bool) (l : length row ≡ 272) where
   pub clean-near : CodeWord row → Near row row 0 zeroWords
   clean-near code = record {
     code = code;
-    near = omega (arith, ap ones same-zeros, ones-zeros 272);
+    near = omega (arith, distance-self row);
     words = zero-five;
     places = zero-row ∙ sym same-zeros;
     counts = sym (ap ones zero-row ∙ ones-zeros 272);

@@ -163,7 +163,7 @@ pub none-stored : (p : ℕ) → bitIn 64 (replicate 5 0) p ≡ false
 none-stored p = ap (λ (w : ℕ). bitOf w (p % 64)) (same-at {A = ℕ} 0 5 (p / 64)) ∙ bitOf-zero (p % 64)
 
 -- THE COUNT OF A WORD'S ONES is the number of ones in the part of a row that it holds
-row-cong : (f g : ℕ → Bool) (p q n : ℕ) → ((k : ℕ) → k < n → f (p + k) ≡ g (q + k)) → rowFrom f p n ≡ rowFrom g q n
+pub row-cong : (f g : ℕ → Bool) (p q n : ℕ) → ((k : ℕ) → k < n → f (p + k) ≡ g (q + k)) → rowFrom f p n ≡ rowFrom g q n
 row-cong f g p q zero h = refl
 row-cong f g p q (suc n) h =
     let here : f p ≡ g q = ap f (sym (add-zero p)) ∙ h 0 (omega arith) ∙ ap g (add-zero q) in

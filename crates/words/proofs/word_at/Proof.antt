@@ -1,16 +1,18 @@
 -- `words::word_at`: the bytes before j are in their places, and nothing is behind them. Assumes nothing.
 use borrow.Author.Needs.{needs}
 use native.Mathlib.Omega.{arith}
-use mathlib.Core.Path.{_≡_}
+use mathlib.Core.Path.{_≡_, _∙_}
 use mathlib.Core.Bool.{false}
-use Prim.Native.Nat.{ℕ, _+_, _-_, _*_, _^_, _<_, _≤_}
+use mathlib.Core.List.{List}
+use Prim.Native.Nat.{ℕ, _+_, _-_, _*_, _/_, _%_, _^_, _<_, _≤_}
+use lib.ListN.{getD}
 use Rattle.words.specs.Bytes.{bitOf, bitIn}
 use Rattle.words.proofs.Bytes.{bitOf-zero, byte-more, byte-none}
 use Rattle.words.proofs.word_at.Statement.{statement}
 use Rattle.words.proofs.word_at.Tie as tie
 
 abbrev Inv-loop : tie.InvT-loop
-Inv-loop bytes at count word₀ j₀ word j = (j ≤ count) × ((k : ℕ) → k < 8 * j → bitOf word k ≡ bitIn 8 bytes (8 * at + k)) × ((k : ℕ) → 8 * j ≤ k → bitOf word k ≡ false)
+Inv-loop bytes at count word₀ j₀ word j = (j ≤ count) × ((k : ℕ) → k < 8 * j → bitOf word k ≡ bitOf (getD bytes (at + k / 8) 0) (k % 8)) × ((k : ℕ) → 8 * j ≤ k → bitOf word k ≡ false)
 
 abbrev μ-loop : tie.MeasureT-loop
 μ-loop bytes at count word₀ j₀ word j = count - j
@@ -46,14 +48,21 @@ loop-again c =
     let x = c .wide .result in
     let small : x < 2 ^ 8 = omega (arith, c .wide .ensures, c .before .shared-slice-known2 .given (a .at + h .j)) in (
       search needs,
-      byte-more (a .bytes .now) (a .at) (h .j) (h .word) x (omega arith) (c .wide .ensures) small (h .inv .1) (h .inv .2),
-      byte-none (a .bytes .now) (a .at) (h .j) (h .word) x (omega arith) (c .wide .ensures) small (h .inv .1) (h .inv .2),
+      byte-more (λ i. getD (a .bytes .now) (a .at + i) 0) (h .j) (h .word) x (omega arith) (c .wide .ensures) small (h .inv .1) (h .inv .2),
+      byte-none (λ i. getD (a .bytes .now) (a .at + i) 0) (h .j) (h .word) x (omega arith) (c .wide .ensures) small (h .inv .1) (h .inv .2),
     )
 
 returns : tie.Need-returns Inv-loop μ-loop
 returns c =
     let h = c .before .loop in
-    (λ k g. h .inv .1 k (omega arith), λ k g. h .inv .2 k (omega arith))
+    let a = c .before .before .before .args in
+    (λ k g. h .inv .1 k (omega arith) ∙ here (a .bytes .now) (a .at) k, λ k g. h .inv .2 k (omega arith))
+  where
+    here : (bytes : List ℕ) (at k : ℕ) → bitOf (getD bytes (at + k / 8) 0) (k % 8) ≡ bitIn 8 bytes (8 * at + k)
+    here bytes at k =
+        let q : at + k / 8 ≡ (8 * at + k) / 8 = omega arith in
+        let r : k % 8 ≡ (8 * at + k) % 8 = omega arith in
+        λ i. bitOf (getD bytes (q i) 0) (r i)
 
 pub word-at-spec : {M : Type 1} → statement M
 word-at-spec =
