@@ -4,4 +4,5 @@ pub mod Orthogonal
 pub mod Spanned
 pub mod Majority
 pub mod Accepted
+pub mod Ones
 pub mod Determined

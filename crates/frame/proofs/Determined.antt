@@ -25,7 +25,7 @@ columns-once {f} {g} x y same s t =
 -- `correct_frame`
 pub correct-frame-once : (received : List ℕ) (r s : CorrectedFrame) (x y : List ℕ) → areBytes x ≡ true → areBytes y ≡ true → CorrectsFrame received x r → CorrectsFrame received y s → (r ≡ s) × (x ≡ y)
 correct-frame-once received r s x y bx by (inl u) (inl v) =
-    (returned r s (u .answers ∙ sym (v .answers)) (u .rows ∙ sym (v .rows)) (u .columns ∙ sym (v .columns)), u .same ∙ sym (v .same))
+    (returned r s (u .answers ∙ sym (v .answers)) (u .noRows ∙ sym (v .noRows)) (u .noColumns ∙ sym (v .noColumns)), u .same ∙ sym (v .same))
 correct-frame-once received r s x y bx by (inl u) (inr v) = absurd (u .wrong (v .sized))
 correct-frame-once received r s x y bx by (inr u) (inl v) = absurd (v .wrong (u .sized))
 correct-frame-once received r s x y bx by (inr u) (inr v) =

@@ -1,5 +1,5 @@
 -- A frame's bits, its rows and its bytes: each determines the others. Assumes nothing.
-use mathlib.Core.Path.{_≡_, refl, sym, ap, _∙_}
+use mathlib.Core.Path.{_≡_, sym, ap, _∙_}
 use mathlib.Core.Bool.{true, false}
 use mathlib.Core.List.{List}
 use Prim.Native.Nat.{ℕ, _+_, _*_, _/_, _%_, _<_}
@@ -10,11 +10,9 @@ use lib.Pow.{areBytes}
 use lib.Seq.{ext-getD, getD-take, getD-drop}
 use Rattle.answers.proofs.Bytes.{byte-at}
 use Rattle.gf2.specs.Poly.{rowFrom}
-use Rattle.gf2.proofs.Lists.{length-rowFrom, getD-rowFrom}
-use Rattle.code.specs.Vote.{bitAt}
+use Rattle.gf2.proofs.Lists.{length-rowFrom, getD-rowFrom, row-cong}
 use Rattle.words.specs.Bytes.{bitOf, bitIn, bitsOf, rowOf}
 use Rattle.words.proofs.Bytes.{bits-once}
-use Rattle.words.proofs.Words.{row-cong}
 use Rattle.frame.specs.Frames.{Frame, frameOf, turnedRound, rowIn}
 
 -- a frame's bit in its byte
@@ -26,7 +24,7 @@ pub length-rowIn : (frame : Frame) (n : ℕ) → length (rowIn frame n) ≡ 272
 unfolding rowIn
 length-rowIn frame n = length-rowFrom (frame n) 0 272
 
-pub bit-rowIn : (frame : Frame) (n p : ℕ) → p < 272 → bitAt (rowIn frame n) p ≡ frame n p
+bit-rowIn : (frame : Frame) (n p : ℕ) → p < 272 → getD (rowIn frame n) p false ≡ frame n p
 unfolding rowIn
 bit-rowIn frame n p h = getD-rowFrom (frame n) 272 p h
 
@@ -35,8 +33,8 @@ pub rows-same : (f g : Frame) (n m : ℕ) → ((p : ℕ) → p < 272 → f n p �
 unfolding rowIn
 rows-same f g n m h = row-cong (f n) (g m) 0 0 272 (λ p l. ap (f n) (zero-add p) ∙ h p l ∙ ap (g m) (sym (zero-add p)))
 
-pub bits-same : (f g : Frame) (n : ℕ) → rowIn f n ≡ rowIn g n → (p : ℕ) → p < 272 → f n p ≡ g n p
-bits-same f g n e p h = sym (bit-rowIn f n p h) ∙ ap (λ row. bitAt row p) e ∙ bit-rowIn g n p h
+bits-same : (f g : Frame) (n : ℕ) → rowIn f n ≡ rowIn g n → (p : ℕ) → p < 272 → f n p ≡ g n p
+bits-same f g n e p h = sym (bit-rowIn f n p h) ∙ ap (λ row. getD row p false) e ∙ bit-rowIn g n p h
 
 -- ROWS DETERMINE COLUMNS, and columns rows: the frames are the same
 abbrev pub SameRows : Frame → Frame → Type 0

@@ -6,3 +6,4 @@ pub mod TiledFrames
 pub mod Rows
 pub mod Determined
 pub mod CodeFrames
+pub mod LostRows

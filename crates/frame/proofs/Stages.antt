@@ -1,12 +1,11 @@
--- The laws of a stage, by the corrector's promise alone. Assumes nothing.
-use mathlib.Core.Path.{_≡_, refl, sym, ap, _∙_, subst}
+-- The laws of a stage, over all code words, of which at most one is near a row. Assumes nothing.
+use mathlib.Core.Path.{_≡_, refl, sym, _∙_, subst}
 use mathlib.Core.Bool.{Bool}
 use mathlib.Core.List.{List}
 use Prim.Native.Nat.{ℕ, zero, suc, _+_, _<_, _≤_}
 use native.Mathlib.Decide.{ℕ-discrete}
 use native.Mathlib.Omega.{arith}
 use lib.ListN.{length}
-use Rattle.code.specs.Code.{CodeWord, distance, mostCorrected}
 use Rattle.code.proofs.Majority.{only-word}
 use Rattle.frame.specs.Frames.{Frame, rowIn, Becomes, corrected, kept, Stage, start, next}
 use Rattle.frame.proofs.Frames.{length-rowIn}
@@ -17,7 +16,7 @@ refused-one (corrected code near) = omega arith
 refused-one (kept none same) = omega arith
 
 -- what a row becomes is determined
-pub becomes-once : (row x y : List Bool) (i j : ℕ) → length row ≡ 272 → Becomes row x i → Becomes row y j → (x ≡ y) × (i ≡ j)
+becomes-once : (row x y : List Bool) (i j : ℕ) → length row ≡ 272 → Becomes row x i → Becomes row y j → (x ≡ y) × (i ≡ j)
 becomes-once row x y i j l (corrected code near) (corrected other close) = (only-word row x y l code other near close, refl)
 becomes-once row x y i j l (corrected code near) (kept none same) = absurd (none x code near)
 becomes-once row x y i j l (kept none same) (corrected code near) = absurd (none y code near)
@@ -45,11 +44,10 @@ stage-once {f} {g} {h} (next {n} {refusals = i} {more = a} s x) (next {refusals 
       λ t. before .1 t + here .1 t,
     )
 
--- WHERE EACH ROW IS NEAR A CODE WORD the stage gives those words, and refuses none
-pub stage-near : {f g : Frame} (h : Frame) {n i : ℕ} → ((m : ℕ) → m < n → CodeWord (rowIn h m)) → ((m : ℕ) → m < n → distance (rowIn f m) (rowIn h m) ≤ mostCorrected)
-    → Stage f g n i → ((m : ℕ) → m < n → rowIn g m ≡ rowIn h m) × (i ≡ 0)
-stage-near {f} {g} h {n} {i} code near s = stage-once s (all n code near)
+-- WHERE EACH ROW CAN BECOME THAT OF A FRAME the stage gives its rows, and refuses none
+pub stage-near : {f g : Frame} (h : Frame) {n i : ℕ} → ((m : ℕ) → m < n → Becomes (rowIn f m) (rowIn h m) 0) → Stage f g n i → ((m : ℕ) → m < n → rowIn g m ≡ rowIn h m) × (i ≡ 0)
+stage-near {f} {g} h {n} each s = stage-once s (all n each)
   where
-    all : (n : ℕ) → ((m : ℕ) → m < n → CodeWord (rowIn h m)) → ((m : ℕ) → m < n → distance (rowIn f m) (rowIn h m) ≤ mostCorrected) → Stage f h n 0
-    all zero code near = start
-    all (suc n) code near = next (all n (λ m l. code m (omega arith)) (λ m l. near m (omega arith))) (corrected (code n (omega arith)) (near n (omega arith)))
+    all : (n : ℕ) → ((m : ℕ) → m < n → Becomes (rowIn f m) (rowIn h m) 0) → Stage f h n 0
+    all zero each = start
+    all (suc n) each = next (all n (λ m l. each m (omega arith))) (each n (omega arith))

@@ -17,7 +17,7 @@ use Rattle.frame.proofs.Stages.{stage-same}
 abbrev pub tileByte : (down along j : ℕ) → ℕ
 tileByte down along j = 34 * (8 * down + j) + along
 
-pub tile-bit : (frame : List ℕ) (down along j i : ℕ) → along < 34 → i < 8 → frameOf frame (8 * down + j) (8 * along + i) ≡ bitOf (getD frame (tileByte down along j) 0) i
+tile-bit : (frame : List ℕ) (down along j i : ℕ) → along < 34 → i < 8 → frameOf frame (8 * down + j) (8 * along + i) ≡ bitOf (getD frame (tileByte down along j) 0) i
 tile-bit frame down along j i h l =
     let byte : 34 * (8 * down + j) + (8 * along + i) / 8 ≡ tileByte down along j = omega arith in
     let weight : (8 * along + i) % 8 ≡ i = omega arith in

@@ -28,12 +28,12 @@ turnedRound frame n p = frame p n
 unfoldable pub rowIn : Frame → ℕ → List Bool
 rowIn frame n = rowFrom (frame n) 0 272
 
--- What a row becomes, with 1 where it is refused: the code word that differs in at most eight places, or else it stays.
+-- What a row becomes, and 1 where it is refused, else 0: the code word that differs from it in at most eight places; where there is none it is kept.
 pub data Becomes (row result : List Bool) : ℕ → Type 0 where
   corrected : CodeWord result → distance row result ≤ mostCorrected → Becomes row result 0
   kept : NoneNear row → result ≡ row → Becomes row result 1
 
--- a stage: each of so many rows becomes that, and so many are refused
+-- a stage: each of the first so many rows becomes that, and so many of them are refused
 pub data Stage (received result : Frame) : (rows refusals : ℕ) → Type 0 where
   start : Stage received result 0 0
   next : {n refusals more : ℕ} → Stage received result n refusals → Becomes (rowIn received n) (rowIn result n) more → Stage received result (suc n) (refusals + more)
@@ -42,16 +42,16 @@ pub data Stage (received result : Frame) : (rows refusals : ℕ) → Type 0 wher
 pub record AnotherLength (received after : List ℕ) (r : CorrectedFrame) : Type 0 where
   pub wrong : length received ≡ 9248 → ⊥
   pub answers : paper (r .answer) ≡ refused 1
-  pub rows : r .«refused_rows» ≡ 0
-  pub columns : r .«refused_columns» ≡ 0
+  pub noRows : r .«refused_rows» ≡ 0
+  pub noColumns : r .«refused_columns» ≡ 0
   pub same : after ≡ received
 
--- accepted: each row, then each column; a refused column keeps its bits as they were after the row stage, which left the frame `between`
+-- accepted: each row, then each column of what the rows have become; so a refused column keeps its bits as they were after the row stage
 pub record TwoStages (received after : List ℕ) (r : CorrectedFrame) : Type 0 where
   pub sized : length received ≡ 9248
-  pub between : Frame
-  pub rows : Stage (frameOf received) between 272 (r .«refused_rows»)
-  pub columns : Stage (turnedRound between) (turnedRound (frameOf after)) 272 (r .«refused_columns»)
+  pub afterRows : Frame
+  pub rows : Stage (frameOf received) afterRows 272 (r .«refused_rows»)
+  pub columns : Stage (turnedRound afterRows) (turnedRound (frameOf after)) 272 (r .«refused_columns»)
   pub answers : paper (r .answer) ≡ accepted
   pub long : length after ≡ 9248
 
@@ -59,7 +59,7 @@ abbrev pub CorrectsFrame : (received after : List ℕ) (r : CorrectedFrame) → 
 CorrectsFrame received after r = AnotherLength received after r ⊎ TwoStages received after r
 
 -- Every row and every column is meant to be a code word.
-pub record CodeFrame (frame : List ℕ) : Type 0 where
-  pub sized : length frame ≡ 9248
-  pub rows : (n : ℕ) → n < 272 → CodeWord (rowIn (frameOf frame) n)
-  pub columns : (n : ℕ) → n < 272 → CodeWord (rowIn (turnedRound (frameOf frame)) n)
+pub record CodeFrame (bytes : List ℕ) : Type 0 where
+  pub sized : length bytes ≡ 9248
+  pub rows : (n : ℕ) → n < 272 → CodeWord (rowIn (frameOf bytes) n)
+  pub columns : (n : ℕ) → n < 272 → CodeWord (rowIn (turnedRound (frameOf bytes)) n)

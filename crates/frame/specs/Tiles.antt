@@ -3,15 +3,14 @@ use mathlib.Core.Path.{_≡_}
 use mathlib.Core.List.{List}
 use Prim.Native.Nat.{ℕ, _+_, _*_, _/_, _%_, _^_, _<_}
 use lib.Bits.{bitAnd, bitXor}
-use lib.ListN.{length}
 use Rattle.words.specs.Bytes.{bitOf}
-use Rattle.frame.specs.Frames.{frameOf}
+use Rattle.frame.specs.Frames.{frameOf, turnedRound}
 
 -- a word with each chosen place exchanged with the one so far on
 unfoldable pub exchanged : (far chosen word : ℕ) → ℕ
 exchanged far chosen word = let differing = bitAnd chosen (bitXor word (word / 2 ^ far)) in bitXor word (bitXor differing (differing * 2 ^ far % 2 ^ 64))
 
--- a word is the tile of a frame in the rows from 8 down on, at the positions from 8 along on
+-- a word is the tile of a frame in eight rows from 8 x down on, at eight positions from 8 x along on
 abbrev pub TileOf : List ℕ → (down along tile : ℕ) → Type 0
 TileOf frame down along tile = (j i : ℕ) → j < 8 → i < 8 → bitOf tile (8 * j + i) ≡ frameOf frame (8 * down + j) (8 * along + i)
 
@@ -22,4 +21,4 @@ pub record PutsTile (down along tile : ℕ) (before after : List ℕ) : Type 0 w
 
 -- the whole frame is turned round
 pub record TurnedRound (frame turned : List ℕ) : Type 0 where
-  pub at : (n p : ℕ) → n < 272 → p < 272 → frameOf turned n p ≡ frameOf frame p n
+  pub at : (n p : ℕ) → n < 272 → p < 272 → frameOf turned n p ≡ turnedRound (frameOf frame) n p

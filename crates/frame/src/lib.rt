@@ -22,8 +22,9 @@ pub struct CorrectedFrame {
     pub refused_columns: u16,
 }
 
-// Corrects each row of the frame, and then each column: it becomes the code word that differs in at most eight places.
-// A row or a column that has none is refused and stays as it is.
+// Corrects each row of the frame, and then each column of what the rows have become: each becomes the code word that differs
+// from it in at most eight places. One that has none is refused and counted: a row stays as received, a column as the rows
+// left it.
 // Answer 1: `frame` has another length than 9,248; it is as it was, and both numbers are zero.
 pub fn correct_frame(frame: &mut [u8]) -> CorrectedFrame
     ensures { λ r. ⌜ CorrectsFrame (now (frame .entry)) (now (frame .exit)) r ⌝ }

@@ -35,7 +35,7 @@ pub(crate) fn turn_round(frame: &[u8], turned: &mut [u8])
     }
 }
 
-// The tile in the rows from 8 `down` on, at the positions from 8 `along` on.
+// The tile in eight rows from 8 x `down` on, at eight positions from 8 x `along` on.
 fn tile_at(frame: &[u8], down: usize, along: usize) -> u64
     requires { ⌜ (length (now frame) ≡ 9248) × (down < 34) × (along < 34) ⌝ }
     ensures { λ r. ⌜ TileOf (now (frame .entry)) down along r ⌝ }

@@ -58,3 +58,10 @@ rowFrom-later f p (suc n) (suc i) h = rowFrom-later f (suc p) n i (omega arith) 
 
 pub getD-rowFrom : (f : ℕ → Bool) (n i : ℕ) → i < n → getD (rowFrom f 0 n) i false ≡ f i
 getD-rowFrom f n i h = rowFrom-later f 0 n i h ∙ ap f (zero-add i)
+
+-- rows of the same bits, from any two places on
+pub row-cong : (f g : ℕ → Bool) (p q n : ℕ) → ((k : ℕ) → k < n → f (p + k) ≡ g (q + k)) → rowFrom f p n ≡ rowFrom g q n
+row-cong f g p q zero h = refl
+row-cong f g p q (suc n) h =
+    let here : f p ≡ g q = ap f (sym (add-zero p)) ∙ h 0 (omega arith) ∙ ap g (add-zero q) in
+    λ i. here i ∷ row-cong f g (suc p) (suc q) n (λ k l. ap f (omega arith) ∙ h (suc k) (omega arith) ∙ ap g (omega arith)) i

@@ -84,7 +84,7 @@ ones-zeros : (n : ℕ) → ones (replicate n false) ≡ 0
 ones-zeros zero = refl
 ones-zeros (suc n) = omega (arith, ones-zeros n)
 
--- it differs from itself nowhere
+-- a row differs from itself nowhere
 pub distance-self : (row : List Bool) → distance row row ≡ 0
 distance-self row = ap ones (add-self row) ∙ ones-zeros (length row)
 

@@ -14,6 +14,7 @@ use lib.ListN.{length, getD, set, take, drop, replicate, length-append, take-app
 use lib.Pow.{shr-shr}
 use lib.Seq.{ext-getD, getD-take, getD-drop, getD-set-same, getD-set-other, length-take-le, take-at, drop-at}
 use Rattle.gf2.specs.Poly.{bit, _⊕_, rowFrom, add}
+use Rattle.gf2.proofs.Lists.{row-cong}
 use Rattle.code.specs.Code.{ones}
 use Rattle.code.specs.Vote.{bitAt}
 use Rattle.words.specs.Bytes.{bitOf, bitIn, bitsOf}
@@ -163,12 +164,6 @@ pub none-stored : (p : ℕ) → bitIn 64 (replicate 5 0) p ≡ false
 none-stored p = ap (λ (w : ℕ). bitOf w (p % 64)) (same-at {A = ℕ} 0 5 (p / 64)) ∙ bitOf-zero (p % 64)
 
 -- THE COUNT OF A WORD'S ONES is the number of ones in the part of a row that it holds
-pub row-cong : (f g : ℕ → Bool) (p q n : ℕ) → ((k : ℕ) → k < n → f (p + k) ≡ g (q + k)) → rowFrom f p n ≡ rowFrom g q n
-row-cong f g p q zero h = refl
-row-cong f g p q (suc n) h =
-    let here : f p ≡ g q = ap f (sym (add-zero p)) ∙ h 0 (omega arith) ∙ ap g (add-zero q) in
-    λ i. here i ∷ row-cong f g (suc p) (suc q) n (λ k l. ap f (omega arith) ∙ h (suc k) (omega arith) ∙ ap g (omega arith)) i
-
 word-ones : (n x : ℕ) → x < 2 ^ n → count.ones x ≡ ones (rowFrom (bitOf x) 0 n)
 unfolding count.ones count.onesIn
 word-ones zero x h = let none : x ≡ 0 = omega arith in ap count.ones none

@@ -134,12 +134,12 @@ fn bad_rows(random: &Random, _: usize) -> Frame {
     with_bad_rows(random, random.between(1, MOST_CHANGES), &WAYS)
 }
 
-fn eight_rows_alike(random: &Random, round: usize) -> Frame {
-    with_bad_rows(random, MOST_CHANGES, &[WAYS[round % WAYS.len()]])
+fn eight_rows_alike(random: &Random, _: usize) -> Frame {
+    with_bad_rows(random, MOST_CHANGES, &[random.pick(&WAYS)])
 }
 
-fn nine_rows_alike(random: &Random, round: usize) -> Frame {
-    with_bad_rows(random, MOST_CHANGES + 1, &[WAYS[round % WAYS.len()]])
+fn nine_rows_alike(random: &Random, _: usize) -> Frame {
+    with_bad_rows(random, MOST_CHANGES + 1, &[random.pick(&WAYS)])
 }
 
 fn many_bad_rows(random: &Random, round: usize) -> Frame {
@@ -258,13 +258,13 @@ fn all_noise(random: &Random, _: usize) -> Frame {
 }
 
 /// Frames that need no luck.
-fn plain(random: &Random, round: usize) -> Frame {
+fn plain(random: &Random, _: usize) -> Frame {
     let by_place = |bit: &dyn Fn(usize, usize) -> bool| -> Frame {
         let row = |row| (0..POSITIONS).map(|place| bit(row, place)).collect();
         (0..POSITIONS).map(row).collect()
     };
     let (row, place) = (random.below(POSITIONS), random.below(POSITIONS));
-    match round % 9 {
+    match random.below(9) {
         0 => by_place(&|_, _| false),
         1 => by_place(&|_, _| true),
         2 => by_place(&|at, _| at == row),

@@ -68,9 +68,9 @@ pub fn eight_bad_rows() -> Outcome {
     Ok(())
 }
 
-/// The bound is sharp: a ninth row, and the frame is not the sent one. Nine refused rows are left
-/// with their columns. Nine false words are not counted as rows. With the tenth row of a false word
-/// the columns are not counted either.
+/// The bound is sharp: with a ninth row the frame can be another than was sent. Nine refused rows can
+/// be left with all their columns. Nine false words are not counted as rows. Ten refused rows on the
+/// way to a false word of the columns leave that word, and no column is counted.
 pub fn nine_bad_rows() -> Outcome {
     let random = random();
     for _ in 0..10 {
@@ -130,6 +130,7 @@ pub fn search() -> Outcome {
         Ok(())
     })
     .map_err(|error| error.to_string())?;
+    expect_equal(buffers.len(), 56, "frames")?;
     buffers
         .iter()
         .try_for_each(|buffer| expect_stages(&sums, buffer))

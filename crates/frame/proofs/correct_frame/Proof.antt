@@ -9,7 +9,7 @@ use Rattle.frame.proofs.correct_frame.Statement.{statement}
 use Rattle.frame.proofs.correct_frame.Tie as tie
 
 returns : tie.Need-returns
-returns c = inl (record { wrong = c .if1 .taken; answers = refl; rows = refl; columns = refl; same = refl })
+returns c = inl (record { wrong = c .if1 .taken; answers = refl; noRows = refl; noColumns = refl; same = refl })
 
 returns-2 : tie.Need-returns-2
 returns-2 c =
@@ -19,7 +19,7 @@ returns-2 c =
     let sized : length (a .frame .now) ≡ 9248 = omega arith in
     inr (record {
       sized = sized;
-      between = frameOf (rows .last .0);
+      afterRows = frameOf (rows .last .0);
       rows = rows .ensures;
       columns = columns .ensures;
       answers = refl;
