@@ -2,20 +2,14 @@
 // comes of a block goes to the block's own place in `written`, which is added to the sum at the end: adding it for each
 // block would take longer than correcting it.
 #include "bench.h"
+#include "code.h"
 
-enum { BYTES = 34, INFORMATION = 22, CHECKED = 190, PLACES = 272, WORDS = 5, CIRCLE = 273, CHECKS = 17, MOST = 8 };
+enum { INFORMATION = 22, CHECKED = 190 };
 enum { NO_CODE_WORD = 2, CHECK_BITS = 3 };
 
 static const long size = BYTES;
 
-// 67 times the residues of the difference set, modulo 273.
-static const int check[CHECKS] = {67, 134, 268, 263, 253, 233, 193, 91, 195, 113, 170, 182, 234, 85, 117, 179, 226};
-
 static u8 written[ROOM];
-
-// A code word near what was received and the places that differ, place p as bit p % 64 of word p / 64. Answers their
-// number, or -1, and then leaves `changed`.
-static int find(const u8 *received, u64 *word, u64 *changed);
 
 // Whether the 14 check bits of a code word are those of its information.
 static int check_holds(const u64 *word);

@@ -5,7 +5,7 @@ typedef unsigned long long u64;
 long read(int, void *, unsigned long);
 long write(int, const void *, unsigned long);
 
-// Room for whole records, whether they have 22, 34 or 264 bytes.
+// Room for whole records, whether they have 22, 34 or 264 bytes, and for 113 frames.
 enum { ROOM = 1045704 };
 
 static u8 records[ROOM];

@@ -1,11 +1,13 @@
-// bench TASK COUNT: calls a public function, which the first letter of TASK tells (correct, read, step, join, feed), on so
-// many records of standard input, from the first again where they end, and writes a sum over all that came of it, so that
-// bench/run can time the function and hold it to C. Behind the letter of feed stand the bytes of a piece, as in f16.
+// bench TASK COUNT: calls a public function, which the first letter of TASK tells (correct, read, step, join, feed, or whole
+// for whole frames), on so many records of standard input, from the first again where they end, and writes a sum over all
+// that came of it, so that bench/run can time the function and hold it to C. Behind the letter of feed stand the bytes of a
+// piece, as in f16.
 ghost use mathlib.Core.Path.{_≡_};
 ghost use Prim.Native.Nat.{_≤_};
 ghost use lib.ListN.{length};
 
 mod blocks;
+mod frames;
 mod messages;
 mod pieces;
 mod records;
@@ -15,7 +17,7 @@ use libc::STDIN_FILENO;
 use libc::STDOUT_FILENO;
 use text::Number;
 
-// Room for whole records, whether they have 22, 34 or 264 bytes.
+// Room for whole records, whether they have 22, 34 or 264 bytes, and for 113 frames.
 const ROOM: usize = 1045704;
 
 fn main() {
@@ -57,7 +59,7 @@ fn size_in(task: &[u8]) -> usize {
     count_of(&task[1..]) as usize
 }
 
-// `size` is that of a piece, and `written` is room for what comes of blocks.
+// `size` is that of a piece, and `written` is room for what comes of blocks and frames.
 fn take(task: u8, size: usize, input: &[u8], written: &mut [u8], count: u32) -> u64
     requires { ⌜ length (now input) ≤ length (now written) ⌝ }
 {
@@ -67,6 +69,7 @@ fn take(task: u8, size: usize, input: &[u8], written: &mut [u8], count: u32) -> 
         b's' => steps::take(input, count),
         b'j' => messages::take(input, count),
         b'f' => pieces::take(size, input, count),
+        b'w' => frames::take(input, written, count),
         _ => 0,
     }
 }
