@@ -78,3 +78,9 @@ pub turned-stage : {frame turned corrected back : List ℕ} {i : ℕ} → Turned
 turned-stage {frame} {turned} {corrected} {back} over again =
     stage-same (λ n l. rows-same (frameOf turned) (turnedRound (frameOf frame)) n n (λ p g. over .at n p l g))
     (λ n l. rows-same (frameOf corrected) (turnedRound (frameOf back)) n n (λ p g. sym (again .at p n g l)))
+
+-- where none has changed, the frame is as it was
+pub unchanged-stage : {frame turned corrected : List ℕ} {i : ℕ} → TurnedRound frame turned → turned ≡ corrected → Stage (frameOf turned) (frameOf corrected) 272 i
+    → Stage (turnedRound (frameOf frame)) (turnedRound (frameOf frame)) 272 i
+unchanged-stage {frame} {turned} {corrected} {i} over same stage =
+    turned-stage over (record { at = λ n p g l. sym (over .at p n l g) }) (subst (λ bytes. Stage (frameOf turned) (frameOf bytes) 272 i) (sym same) stage)

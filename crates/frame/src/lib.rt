@@ -45,14 +45,19 @@ pub fn correct_frame(frame: &mut [u8]) -> CorrectedFrame
     }
 }
 
-// Corrects each column, a row of the frame turned round, and counts those that were refused.
+// Corrects each column, a row of the frame turned round, and counts those that were refused. Where no column has changed, as
+// in most frames, the frame is not turned back.
 fn correct_columns(frame: &mut [u8]) -> u16
     requires { ⌜ length (now frame) ≡ 9248 ⌝ }
     ensures { λ r. ⌜ Stage (turnedRound (frameOf (now (frame .entry)))) (turnedRound (frameOf (now (frame .exit)))) 272 r ⌝ }
 {
     let mut turned = [0u8; FRAME_BYTES];
     tiles::turn_round(frame, &mut turned);
+    let before = turned;
     let refused = correct_rows(&mut turned);
+    if text::same(&before, &turned) {
+        return refused;
+    }
     tiles::turn_round(&turned, frame);
     refused
 }
