@@ -1,10 +1,10 @@
 -- A row of ones. Assumes nothing.
-use mathlib.Core.Path.{_≡_, sym, ap}
+use mathlib.Core.Path.{ap}
 use mathlib.Core.Bool.{Bool, true}
 use mathlib.Core.List.{List}
-use Prim.Native.Nat.{ℕ, _≤_}
+use Prim.Native.Nat.{_≤_}
 use native.Mathlib.Omega.{arith}
-use lib.Dec.{leb→le, leb}
+use lib.Dec.{leb→le}
 use lib.ListN.{replicate, length-replicate}
 use Rattle.code.specs.Code.{CodeWord, distance, mostCorrected}
 use Rattle.code.specs.Vote.{checkPositions, paritySum, paritySums, oddSums, voted}

@@ -69,7 +69,7 @@ ofFour = 225176545447116
 abbrev pub ofEight : ℕ
 ofEight = 4042322160
 
--- three exchanges bring each of the 64 places to the other side of the diagonal
+-- three exchanges bring each of the 64 places to its mirror place across the diagonal
 abbrev crossed : ℕ → Bool
 crossed k =
     let a = sourceOf 28 ofEight k in

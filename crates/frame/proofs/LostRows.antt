@@ -13,7 +13,7 @@ all-ones : rowOf (replicate 34 255) ≡ replicate 272 true
 unfolding bitsOf bitOf
 all-ones = refl
 
--- IT IS REFUSED, and stays in the row stage
+-- IT IS REFUSED AND STAYS in a stage
 pub lost-row : (result : List Bool) (i : ℕ) → Becomes (rowOf (replicate 34 255)) result i → (result ≡ rowOf (replicate 34 255)) × (i ≡ 1)
 lost-row result i (corrected code near) = absurd (subst NoneNear (sym all-ones) ones-far result code near)
 lost-row result i (kept none same) = (same, refl)

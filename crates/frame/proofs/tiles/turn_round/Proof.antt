@@ -1,8 +1,8 @@
 -- `frame::tiles::turn_round`: the tiles before t are turned round. Assumes nothing.
 use borrow.Author.Needs.{needs}
 use native.Mathlib.Omega.{arith}
-use mathlib.Core.Path.{_≡_, refl, _∙_}
-use Prim.Native.Nat.{ℕ, _-_, _≤_}
+use mathlib.Core.Path.{_≡_, _∙_}
+use Prim.Native.Nat.{_-_, _≤_}
 use lib.ListN.{length}
 use Rattle.frame.proofs.TiledFrames.{Turning, turning-turn}
 use Rattle.frame.proofs.tiles.turn_round.Statement.{statement}
