@@ -1,4 +1,6 @@
 // The answer numbers of document 01, as one enum that every crate above answers with.
+#![tactic(auto)]
+
 ghost use Rattle.std.specs.Prelude.{◌≡◌};
 ghost use Rattle.answers.specs.Numbers.{number_of};
 

@@ -1,5 +1,7 @@
 // Channel numbers and kilohertz, kept apart (document 01, "The log and its report"; 000, table 9). The fields are public and can
 // hold anything, so every function tests what it is given.
+#![tactic(auto)]
+
 ghost use Rattle.std.specs.Prelude.{◌≡◌};
 ghost use Rattle.band.specs.Band.{is_channel, is_frequency, numbered_of, kilohertz_of, channel_of, told_channel, told_kilohertz};
 

@@ -2,6 +2,8 @@
 // for whole frames), on so many records of standard input, from the first again where they end, and writes a sum over all
 // that came of it, so that bench/run can time the function and hold it to C. Behind the letter of feed stand the bytes of a
 // piece, as in f16.
+#![tactic(auto)]
+
 ghost use Rattle.std.specs.Prelude.{◌≡◌, ◌≤◌, length};
 
 mod blocks;

@@ -1,4 +1,6 @@
 // Document 01, "The block": 272 bits in sending order, as 34 bytes.
+#![tactic(auto)]
+
 ghost use Rattle.std.specs.Prelude.{◌≡◌};
 ghost use Rattle.answers.specs.Numbers.{refused, number_of, paper};
 ghost use Rattle.words.specs.Words.{zero_words};

@@ -1,5 +1,7 @@
 // The long message channel of document 01, layers 3 and 4: a channel state takes information blocks of 22 bytes and
 // gives messages.
+#![tactic(auto)]
+
 ghost use Rattle.std.specs.Prelude.{true, ◌≡◌, ◌*◌, ◌<◌, ◌≤◌, ◌^◌, length};
 ghost use Rattle.header.specs.Header.{total, holds, header_from};
 ghost use Rattle.channel.specs.Answers.{told_step};

@@ -1,6 +1,8 @@
 // The (272,190) code of document 01, "The block": its generator, and the check positions with which the corrector
 // votes. Beside these two tables the crate holds what is proved of them: specs/ says what a code word is, proofs/ why
 // the vote finds it.
+#![tactic(auto)]
+
 ghost use Rattle.std.specs.Prelude.{◌≡◌};
 ghost use Rattle.code.specs.Code.{generator};
 ghost use Rattle.code.specs.Vote.{check_positions};

@@ -1,4 +1,6 @@
 // Document 02, ticket 5: whole frames, 272 rows in code order, of which every row and every column is meant to be a code word.
+#![tactic(auto)]
+
 ghost use Rattle.std.specs.Prelude.{◌≡◌, length};
 ghost use Rattle.words.specs.Bytes.{row_of};
 ghost use Rattle.frame.specs.Frames.{frame_of, turned_round, Becomes, Stage, CorrectsFrame};

@@ -1,5 +1,7 @@
 // Polynomials over the field of two elements, as rows of bits, highest power first: the ground of
 // document 01's three checks, of 6, 14 and 82 bits. A divisor x^d + .. is lent as the row of its d lower coefficients.
+#![tactic(auto)]
+
 ghost use Rattle.std.specs.Prelude.{◌≡◌, ◌-◌, ◌<◌, ◌≤◌, length};
 ghost use Rattle.gf2.specs.Poly.{bit, ◌⊕◌, add, divided, elem, lower};
 

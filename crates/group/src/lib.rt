@@ -1,5 +1,7 @@
 // Groups of document 01, with the repeats of ticket 2: a group state joins the data of up to fifteen messages of one
 // service number in a lent buffer.
+#![tactic(auto)]
+
 ghost use Rattle.std.specs.Prelude.{◌≡◌};
 ghost use Rattle.answers.specs.Numbers.{paper};
 ghost use Rattle.group.specs.Answers.{made, told_join};

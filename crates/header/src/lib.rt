@@ -1,5 +1,7 @@
 // Headers of the long message channel (document 01): the six-bit check. How fields stand in a header, and that reading
 // and writing undo each other, is in specs/Header.antt and in proofs/, once for headers of any fields.
+#![tactic(auto)]
+
 ghost use Rattle.std.specs.Prelude.{◌≡◌, ◌%◌, ◌<◌};
 ghost use Rattle.std.specs.Int.Count.{ones};
 ghost use Rattle.header.specs.Header.{check};

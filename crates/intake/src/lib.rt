@@ -1,4 +1,6 @@
 // A log from standard input, for the programs that report on one (document 01, "The log and its report").
+#![tactic(auto)]
+
 ghost use Rattle.logs.specs.Reader.{told_log};
 ghost use Rattle.logs.specs.Pieces.{Reached};
 ghost use Rattle.intake.specs.Intake.{Came};

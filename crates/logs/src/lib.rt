@@ -1,5 +1,7 @@
 // The reader of a reception log (document 01, "The log and its report"; document 02, ticket 4): a machine over bytes with its state by
 // value, for a whole log at once or for one that comes in pieces.
+#![tactic(auto)]
+
 mod count;
 mod line;
 mod machine;

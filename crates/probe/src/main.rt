@@ -1,5 +1,7 @@
 // The probe: reads cases from standard input, a line each, calls the public functions of the libraries, and writes a
 // line for each case. docs/PROBE.md has the notation. Each area has a module, with a function for each of its commands.
+#![tactic(auto)]
+
 mod arguments;
 mod blocks;
 mod cases;

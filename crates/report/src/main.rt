@@ -1,4 +1,6 @@
 // Reads a log on standard input to its end, and writes its report; or `refused`, 12 and the number of the first bad line.
+#![tactic(auto)]
+
 use libc::STDOUT_FILENO;
 
 fn main() {

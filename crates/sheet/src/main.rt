@@ -1,5 +1,7 @@
 // Reads a log on standard input to its end, and writes its row for the spreadsheet under a line of names; or `refused`, 12 and the
 // number of the first bad line.
+#![tactic(auto)]
+
 use libc::STDOUT_FILENO;
 
 fn main() {

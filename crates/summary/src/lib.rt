@@ -1,5 +1,7 @@
 // The summary of a log's counts: the record for the spreadsheet, the report's text and the spreadsheet's row (document 01, "The log and
 // its report").
+#![tactic(auto)]
+
 mod binary;
 mod building;
 

@@ -1,5 +1,7 @@
 // Lines of text with fields parted by tabs, as docs/PROBE.md has them: finding a field, and reading a number or bytes
 // from it. Nothing here reads or writes a file.
+#![tactic(auto)]
+
 mod fields;
 mod hexadecimal;
 mod numbers;

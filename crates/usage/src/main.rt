@@ -1,4 +1,6 @@
 // Corrects a block and reads a log: the program of docs/USE.md.
+#![tactic(auto)]
+
 use answers::Answer;
 use libc::STDOUT_FILENO;
 

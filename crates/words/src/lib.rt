@@ -1,5 +1,7 @@
 // Document 01, "The block", on whole words: the 272 bits of a block as five words of 64, and the code word near such a row
 // (document 02, ticket 3). The vote is that of `code`; here it is taken for 64 positions at a time.
+#![tactic(auto)]
+
 ghost use Rattle.std.specs.Prelude.{◌≡◌, false, ℕ, ◌+◌, ◌*◌, ◌<◌, ◌≤◌, length};
 ghost use Rattle.code.specs.Code.{difference};
 ghost use Rattle.words.specs.Bytes.{bit_of, bit_in};

@@ -1,0 +1,16 @@
+-- `gf2::add_in`: the places below j are added in already, those from j on are left. Assumes nothing.
+use Rattle.gf2.proofs.Turns.{add_turn, add_end}
+use Rattle.gf2.specs.Poly.{add}
+use lib.ListN.{length, take, drop, length-set}
+use borrow.Author.Rules.{rules}
+use native.Mathlib.Omega.{arith}
+use Prim.Native.Nat.{◌≤◌, ◌-◌}
+use mathlib.Core.List.{◌++◌}
+use mathlib.Core.Path.{◌≡◌, refl, ◌∙◌}
+use Rattle.gf2.proofs.add_in.Given as goal
+
+abbrev pub invariant-loop-j : goal.invariant-loop-j
+invariant-loop-j l = (l.j ≤ length l.low) × (length l.row ≡ length l.initial.row) × (take l.j l.row ++ add (drop l.j l.low) (drop l.j l.row) ≡ add l.low l.initial.row)
+
+abbrev pub decreases-loop-j : goal.decreases-loop-j
+decreases-loop-j l = length l.low - l.j
