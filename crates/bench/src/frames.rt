@@ -28,7 +28,7 @@ pub(crate) fn take(input: &[u8], written: &mut [u8], count: u32) -> u64
 fn take_one(received: &[u8], out: &mut [u8]) -> CorrectedFrame
     requires { length received.now ≤ length out.old }
 {
-    bytes::copy(received, out);
+    out[..received.len()].copy_from_slice(received);
     frame::correct_frame(out)
 }
 

@@ -13,26 +13,31 @@ mod pieces;
 mod records;
 mod steps;
 
-use libc::{STDIN_FILENO, STDOUT_FILENO};
+use std::env::Env;
 use text::Number;
+
+// The descriptors of standard input and standard output.
+const STDIN: i32 = 0;
+
+const STDOUT: i32 = 1;
 
 // Room for whole records, whether they have 22, 34 or 264 bytes, and for 113 frames.
 const ROOM: usize = 1045704;
 
-fn main() {
+fn main(rt: HostRuntime) {
     let mut task = [0u8; 16];
     let mut digits = [0u8; 16];
     let mut input = room();
     let mut written = room();
-    let task_length = os::arg(1, &mut task);
-    let digits_length = os::arg(2, &mut digits);
+    let task_length = argument(&rt, 1, &mut task);
+    let digits_length = argument(&rt, 2, &mut digits);
     let count = count_of(&digits[..digits_length]);
     let size = size_in(&task[..task_length]);
-    let length = io::read_full(STDIN_FILENO, &mut input);
-    io::write_all(STDOUT_FILENO, b"sum\t");
+    let length = io::read_full(STDIN, &mut input);
+    io::write_all(STDOUT, b"sum\t");
     let sum = take(task[0], size, &input[..length], &mut written, count);
-    io::print_decimal(STDOUT_FILENO, sum);
-    io::write_all(STDOUT_FILENO, b"\n");
+    io::print_decimal(STDOUT, sum);
+    io::write_all(STDOUT, b"\n");
 }
 
 // The contract gives the length alone: a proof that sees all of these bytes takes too long.
@@ -40,6 +45,16 @@ fn room() -> [u8; ROOM]
     ensures { 1045704 ≡ length result }
 {
     [0u8; ROOM]
+}
+
+// Puts an argument into a room, and answers how many bytes it has; 0 where there is none, or it doesn't fit.
+fn argument<R: Env>(rt: &R, index: usize, room: &mut [u8]) -> usize
+    ensures { result ≤ length room.new }
+{
+    match rt.arg(index, room) {
+        Ok(count) => count,
+        Err(_) => 0,
+    }
 }
 
 fn count_of(digits: &[u8]) -> u32 {

@@ -5,30 +5,32 @@ ghost use Rattle.logs.specs.Reader.{told_log};
 ghost use Rattle.logs.specs.Pieces.{Reached};
 ghost use Rattle.intake.specs.Intake.{Came};
 
-use libc::STDIN_FILENO;
 use logs::{LogRead, Reader};
+use std::io;
+use std::io::Read;
 
-// What came, read as a log, and whether reading failed before its end.
+// What came, read as a log, and why reading failed, where it did before the end.
 #[derive(Drop)]
 pub struct Intake {
     pub log: LogRead,
-    pub failed: bool,
+    pub failed: Option<io::Error>,
 }
 
-// A reader after what came so far, whether more may come, and whether reading failed.
+// A reader after what came so far, whether more may come, and why reading failed, where it did.
 #[derive(Drop)]
 struct Taken {
     pub reader: Reader,
     pub more: bool,
-    pub failed: bool,
+    pub failed: Option<io::Error>,
 }
 
 // Reads a log on standard input to its end, in pieces of the room that is lent; of a room without bytes nothing comes. Where reading
 // fails, the log is what came until then.
-pub fn read_log(room: &mut [u8]) -> Intake
+pub fn read_log<R: Input>(rt: &R, room: &mut [u8]) -> Intake
     ensures { Came (told_log result.log) }
 {
-    let taken = read_all(room);
+    let mut input = rt.reader();
+    let taken = read_all(&mut input, room);
     let reader = taken.reader;
     let end = logs::end(reader);
     let last = end.reader;
@@ -45,18 +47,18 @@ pub fn read_log(room: &mut [u8]) -> Intake
 }
 
 // A proved loop has to end: it counts its turns down from a number that no run uses up.
-fn read_all(room: &mut [u8]) -> Taken
+fn read_all<I: Read>(input: &mut I, room: &mut [u8]) -> Taken
     ensures { Reached result.reader }
 {
     let mut taken = Taken {
         reader: logs::start(),
         more: true,
-        failed: false,
+        failed: None,
     };
     let mut turns = u64::MAX;
     while turns > 0 {
         let reader = taken.reader;
-        taken = read_some(reader, room);
+        taken = read_some(input, reader, room);
         if !taken.more {
             return taken;
         }
@@ -66,24 +68,31 @@ fn read_all(room: &mut [u8]) -> Taken
 }
 
 // Reads once, and takes the piece that came.
-fn read_some(reader: Reader, room: &mut [u8]) -> Taken
+fn read_some<I: Read>(input: &mut I, reader: Reader, room: &mut [u8]) -> Taken
     requires { Reached reader }
     ensures { Reached result.reader }
 {
-    let got = libc::read(STDIN_FILENO, room);
-    if got <= 0 {
-        return Taken {
-            reader,
-            more: false,
-            failed: got < 0,
-        };
+    match input.read(room) {
+        Ok(0) => ended(reader, None),
+        Ok(count) => {
+            let fed = logs::feed(reader, &room[..count]);
+            Taken {
+                reader: fed.reader,
+                more: true,
+                failed: None,
+            }
+        }
+        Err(error) => ended(reader, Some(error)),
     }
-    let count = io::count(got, room);
-    let fed = logs::feed(reader, &room[..count]);
-    let next = fed.reader;
+}
+
+fn ended(reader: Reader, failed: Option<io::Error>) -> Taken
+    requires { Reached reader }
+    ensures { Reached result.reader }
+{
     Taken {
-        reader: next,
-        more: true,
-        failed: false,
+        reader,
+        more: false,
+        failed,
     }
 }

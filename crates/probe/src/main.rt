@@ -16,7 +16,7 @@ mod surveys;
 
 use arguments::{GIVEN, LENT, PLACES};
 use channel::Channel;
-use libc::{STDERR_FILENO, STDIN_FILENO, STDOUT_FILENO};
+use std::io::Read;
 
 const LINE_FEED: u8 = 10;
 
@@ -81,9 +81,9 @@ fn answer_in(line: &[u8], given: &mut [u8], lent: &mut [u8]) -> bool {
     let n = rooms::within(arguments::count(&numbers, GIVEN), given);
     let m = rooms::within(arguments::count(&numbers, LENT), lent);
     call(command, &numbers, &given[..n], &mut lent[..m]);
-    let written = io::write_all(STDOUT_FILENO, b"\n");
+    let written = put::end();
     if !written {
-        io::write_all(STDERR_FILENO, b"probe: standard output cannot be written\n");
+        put::complaint(b"probe: standard output cannot be written\n");
     }
     written
 }
@@ -116,31 +116,28 @@ fn take_bytes(bytes: &[u8], line: &mut [u8], held: Held) -> Held {
 }
 
 // At the end of the input a line without its line feed is whole.
-fn take_end(got: isize, line: &[u8], length: usize) {
-    if got < 0 {
-        io::write_all(STDERR_FILENO, b"probe: standard input cannot be read\n");
-        return;
-    }
+fn take_end(line: &[u8], length: usize) {
     if 0 < length {
         answer(line, length);
     }
 }
 
 // A proved loop has to end: it counts its turns down from a number that no run uses up.
-fn take_input(chunk: &mut [u8], line: &mut [u8]) {
+fn take_input<I: Read>(input: &mut I, chunk: &mut [u8], line: &mut [u8]) {
     let mut held = Held {
         length: 0,
         writable: true,
     };
     let mut turns = u64::MAX;
     while turns > 0 {
-        let got = libc::read(STDIN_FILENO, chunk);
-        if got <= 0 {
-            take_end(got, line, held.length);
-            return;
+        match input.read(chunk) {
+            Ok(0) => return take_end(line, held.length),
+            Ok(count) => held = take_bytes(&chunk[..count], line, held),
+            Err(_) => {
+                put::complaint(b"probe: standard input cannot be read\n");
+                return;
+            }
         }
-        let count = io::count(got, chunk);
-        held = take_bytes(&chunk[..count], line, held);
         if !held.writable {
             return;
         }
@@ -148,8 +145,9 @@ fn take_input(chunk: &mut [u8], line: &mut [u8]) {
     }
 }
 
-fn main() {
+fn main(rt: HostRuntime) {
     let mut chunk = io::buffer();
     let mut line = rooms::for_line();
-    take_input(&mut chunk, &mut line);
+    let mut input = rt.reader();
+    take_input(&mut input, &mut chunk, &mut line);
 }

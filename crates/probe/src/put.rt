@@ -5,14 +5,28 @@ ghost use Rattle.io.specs.Counts.{IsPrefixLen};
 use crate::rooms;
 use answers::{Answer, Refusal};
 use block::BLOCK_WORDS;
-use libc::STDOUT_FILENO;
+
+// The descriptors of standard output and standard error.
+const STDOUT: i32 = 1;
+
+const STDERR: i32 = 2;
 
 pub(crate) fn word(word: &[u8]) {
-    io::write_all(STDOUT_FILENO, word);
+    io::write_all(STDOUT, word);
+}
+
+// Ends the answer's line, and tells whether that could be written.
+pub(crate) fn end() -> bool {
+    io::write_all(STDOUT, b"\n")
+}
+
+// A line to standard error.
+pub(crate) fn complaint(line: &[u8]) {
+    io::write_all(STDERR, line);
 }
 
 pub(crate) fn refusal(refusal: Refusal) {
-    io::print_decimal(STDOUT_FILENO, answers::number(refusal) as u64);
+    io::print_decimal(STDOUT, answers::number(refusal) as u64);
 }
 
 // The word of a success, or the number of the refusal.
@@ -29,7 +43,7 @@ pub(crate) fn tab() {
 
 fn number(number: u64) {
     tab();
-    io::print_decimal(STDOUT_FILENO, number);
+    io::print_decimal(STDOUT, number);
 }
 
 pub(crate) fn small(value: u8) {
@@ -72,7 +86,7 @@ pub(crate) fn row(words: &[u64; BLOCK_WORDS]) {
 
 fn bits(value: u64) {
     tab();
-    io::print_hex(STDOUT_FILENO, value, 16);
+    io::print_hex(STDOUT, value, 16);
 }
 
 // What was lent.

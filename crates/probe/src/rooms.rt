@@ -43,7 +43,7 @@ pub(crate) fn put(room: &mut [u8], at: usize, byte: u8) -> usize {
 // Copies bytes to the start of a room, where it has space for all of them.
 pub(crate) fn copy(bytes: &[u8], room: &mut [u8]) {
     if bytes.len() <= room.len() {
-        bytes::copy(bytes, room);
+        room[..bytes.len()].copy_from_slice(bytes);
     }
 }
 

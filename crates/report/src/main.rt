@@ -1,19 +1,16 @@
 // Reads a log on standard input to its end, and writes its report; or `refused`, 12 and the number of the first bad line.
 #![tactic(auto)]
 
-use libc::STDOUT_FILENO;
-
-fn main() {
+fn main(rt: HostRuntime) {
     let mut room = io::large_buffer();
-    let intake = intake::read_log(&mut room);
-    if intake.failed {
-        os::fail(b"report: standard input");
+    let intake = intake::read_log(&rt, &mut room);
+    if let Some(error) = intake.failed {
+        let _ = eprintln!(rt; "report: standard input: {error}");
         return;
     }
-    let log = intake.log;
-    let written = summary::report_log(log, &mut room);
+    let written = summary::report_log(intake.log, &mut room);
     let length = written.length;
-    if !io::write_all(STDOUT_FILENO, &room[..length]) {
-        os::fail(b"report: standard output");
+    if let Err(error) = rt.write_all(&room[..length]) {
+        let _ = eprintln!(rt; "report: standard output: {error}");
     }
 }

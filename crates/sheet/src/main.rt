@@ -2,19 +2,16 @@
 // number of the first bad line.
 #![tactic(auto)]
 
-use libc::STDOUT_FILENO;
-
-fn main() {
+fn main(rt: HostRuntime) {
     let mut room = io::large_buffer();
-    let intake = intake::read_log(&mut room);
-    if intake.failed {
-        os::fail(b"sheet: standard input");
+    let intake = intake::read_log(&rt, &mut room);
+    if let Some(error) = intake.failed {
+        let _ = eprintln!(rt; "sheet: standard input: {error}");
         return;
     }
-    let log = intake.log;
-    let written = summary::export_log(log, &mut room);
+    let written = summary::export_log(intake.log, &mut room);
     let length = written.length;
-    if !io::write_all(STDOUT_FILENO, &room[..length]) {
-        os::fail(b"sheet: standard output");
+    if let Err(error) = rt.write_all(&room[..length]) {
+        let _ = eprintln!(rt; "sheet: standard output: {error}");
     }
 }

@@ -6,6 +6,7 @@ use mathlib.Core.List.{List}
 use lib.ListN.{length}
 use Rattle.text.specs.declared.hexadecimal.Bytes.{Bytes}
 use Rattle.text.specs.declared.numbers.Number.{Number}
+use Rattle.text.specs.Find.{index_of}
 use Rattle.text.specs.Fields.{same_as, tabs, field_of}
 use Rattle.text.specs.Hexadecimal.{read_bytes_of, room_after, count_of, hex_digit}
 use Rattle.text.specs.Numbers.{read_number_of}
@@ -13,6 +14,10 @@ use Rattle.text.specs.Numbers.{read_number_of}
 -- `same`
 pub same_once : (a b : List ℕ) (r s : Bool) → r ≡ same_as a b → s ≡ same_as a b → r ≡ s
 same_once a b r s p q = p ∙ sym q
+
+-- `find`
+pub find_once : (bytes : List ℕ) (byte r s : ℕ) → r ≡ index_of byte bytes → r ≤ length bytes → s ≡ index_of byte bytes → s ≤ length bytes → r ≡ s
+find_once bytes byte r s p within q inside = p ∙ sym q
 
 -- `arguments`
 pub arguments_once : (line : List ℕ) (r s : ℕ) → r ≡ tabs line → s ≡ tabs line → r ≡ s

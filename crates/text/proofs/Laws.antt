@@ -8,8 +8,11 @@ use native.Mathlib.Omega.{arith}
 use lib.ListN.{length, get_or, set, take, drop, length-drop, drop_of_length-le, take-append-drop}
 use lib.Seq.{drop-cons, drop-drop, drop-set-lt, take_all, take-suc-set}
 use lib.Dec.{leb, ltb, eqb}
-use borrow.Author.Tests.{eqb-true, eq-eqb, leb-true, ltb-true}
-use Rattle.bytes.specs.Bytes.{index_of, slice}
+use borrow.Author.Tests.{eqb-true, eq-eqb, ne_eqb, leb-true, ltb-true}
+use Rattle.std.specs.Prelude.{Option, None, Some}
+use Rattle.std.specs.Option.{unwrap_or}
+use Rattle.memchr.specs.Find.{IsFirstByte, is_byte}
+use Rattle.text.specs.Find.{index_of, index_after}
 use Rattle.text.specs.Fields.{same_as, field_of}
 use Rattle.text.specs.Hexadecimal.{digit_of, hexadecimal, decoded}
 use Rattle.text.specs.declared.hexadecimal.Bytes.{Bytes}
@@ -82,10 +85,24 @@ a_digit (b ∷ s) h (suc i) k = a_digit s ((and-eq-true_iff (ltb (digit_of b) 16
 pub tail : (s : List ℕ) (i : ℕ) → take (length s - i) (drop i s) ≡ drop i s
 tail s i = take_all (length s - i) (drop i s) (rw length-drop (omega arith))
 
--- how many bytes stand before the first tab, as the code looks for it
-pub tab_at : (s : List ℕ) (n : ℕ) → n ≡ 0 + index_of 9 (slice 0 (length s) s) → n ≡ index_of 9 s
-unfolding slice
-tab_at s n e = let found : n ≡ index_of 9 (take (length s) s) = omega (arith, e) in found ∙ ap (index_of 9) (take_all (length s) s (omega arith))
+-- how many bytes stand before the first b, where it stands at a place and at none before it; and where it stands at none
+pub found_at : (b : ℕ) (s : List ℕ) (k : ℕ) → k < length s → get_or s k 0 ≡ b → ((j : ℕ) → j < k → get_or s j 0 ≡ b → ⊥) → index_of b s ≡ k
+unfolding index_of index_after
+found_at b [] k l h none = absurd (omega arith)
+found_at b (x ∷ s) zero l h none = rw (eq-eqb x b h) refl
+found_at b (x ∷ s) (suc k) l h none =
+    rw (ne_eqb x b (none 0 (omega arith))) (ap suc (found_at b s k (omega arith) h (λ j g. none (suc j) (omega arith))))
+
+pub found_nowhere : (b : ℕ) (s : List ℕ) → ((j : ℕ) → j < length s → get_or s j 0 ≡ b → ⊥) → index_of b s ≡ length s
+unfolding index_of index_after
+found_nowhere b [] none = refl
+found_nowhere b (x ∷ s) none = rw (ne_eqb x b (none 0 (omega arith))) (ap suc (found_nowhere b s (λ j g. none (suc j) (omega arith))))
+
+-- so a search for the first finds it
+pub found_first : (b : ℕ) (s : List ℕ) (r : Option ℕ) → IsFirstByte (is_byte b) s r → (unwrap_or r (length s) ≡ index_of b s) × (unwrap_or r (length s) ≤ length s)
+found_first b s None f = (sym (found_nowhere b s (λ j g e. f j (omega arith) g (eq-eqb (get_or s j 0) b e))), omega arith)
+found_first b s (Some k) f =
+    (sym (found_at b s k f.0.high (eqb-true (get_or s k 0) b f.1) (λ j g e. f.0.before j (omega arith) g (eq-eqb (get_or s j 0) b e))), omega (arith, f.0.high))
 
 -- A field, where n bytes stand before the first tab: the first of all,
 pub field_first : (k : ℕ) (s : List ℕ) (n : ℕ) → n ≡ index_of 9 s → k ≤ 0 → take n s ≡ field_of k s

@@ -1,7 +1,7 @@
 -- docs/PROBE.md: a line is a command and its arguments, parted by tabs; and bytes that are the same, as the log and the group state compare them too.
 -- Assumes nothing.
 use Rattle.std.specs.Prelude.{ℕ, zero, suc, Bool, true, false, cond, ◌&&◌, List, [], ◌∷◌, take, drop, eqb}
-use Rattle.bytes.specs.Bytes.{index_of}
+use Rattle.text.specs.Find.{index_of}
 use Rattle.text.specs.Ascii.{tab}
 
 -- the same bytes in the same order

@@ -1,4 +1,5 @@
 pub mod Ascii
+pub mod Find
 pub mod Fields
 pub mod Numbers
 pub mod Hexadecimal

@@ -1,6 +1,9 @@
 // A line and its fields.
-ghost use Rattle.std.specs.Prelude.{◌≡◌};
+ghost use Rattle.std.specs.Prelude.{◌≡◌, ◌≤◌, length};
+ghost use Rattle.text.specs.Find.{index_of};
 ghost use Rattle.text.specs.Fields.{same_as, tabs, field_of};
+
+use memchr::memchr;
 
 // Whether a and b hold the same bytes. All are looked at, since a loop that may end early is compiled byte by byte.
 pub fn same(a: &[u8], b: &[u8]) -> bool
@@ -16,6 +19,14 @@ pub fn same(a: &[u8], b: &[u8]) -> bool
         i += 1;
     }
     equal
+}
+
+// How many bytes stand before the first that is this one, and all where there is none.
+pub fn find(bytes: &[u8], byte: u8) -> usize
+    ensures first { result ≡ index_of byte bytes.now }
+    ensures within { result ≤ length bytes.now }
+{
+    memchr(byte, bytes).unwrap_or(bytes.len())
 }
 
 // The number of arguments of a line: one behind each tab, since the command stands before the first.
@@ -40,13 +51,13 @@ pub fn field(line: &[u8], index: usize) -> &[u8]
     let mut rest = line;
     let mut left = index;
     while 0 < left {
-        let skipped = bytes::scan::find(rest, 0, rest.len(), b'\t');
+        let skipped = find(rest, b'\t');
         if rest.len() <= skipped {
             return &rest[skipped..];
         }
         rest = &rest[skipped + 1..];
         left -= 1;
     }
-    let count = bytes::scan::find(rest, 0, rest.len(), b'\t');
+    let count = find(rest, b'\t');
     &rest[..count]
 }

@@ -6,6 +6,6 @@ mod fields;
 mod hexadecimal;
 mod numbers;
 
-pub use fields::{arguments, field, same};
+pub use fields::{arguments, field, find, same};
 pub use hexadecimal::{Bytes, first_digit, read_bytes, second_digit};
 pub use numbers::{Number, read_number};

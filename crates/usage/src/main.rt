@@ -2,7 +2,9 @@
 #![tactic(auto)]
 
 use answers::Answer;
-use libc::STDOUT_FILENO;
+
+// The descriptor of standard output.
+const STDOUT: i32 = 1;
 
 fn main() {
     let mut received = [0u8; 34];
@@ -20,7 +22,7 @@ fn main() {
 
 // Writes a number where it was accepted, and else the refusal's number in document 01.
 fn put(name: &[u8], answer: Answer, number: u64) {
-    io::write_all(STDOUT_FILENO, name);
+    io::write_all(STDOUT, name);
     match answer {
         Answer::Accepted => put_behind(b": ", number),
         Answer::Refused(refusal) => put_behind(b": refused, ", answers::number(refusal) as u64),
@@ -28,7 +30,7 @@ fn put(name: &[u8], answer: Answer, number: u64) {
 }
 
 fn put_behind(text: &[u8], number: u64) {
-    io::write_all(STDOUT_FILENO, text);
-    io::print_decimal(STDOUT_FILENO, number);
-    io::write_all(STDOUT_FILENO, b"\n");
+    io::write_all(STDOUT, text);
+    io::print_decimal(STDOUT, number);
+    io::write_all(STDOUT, b"\n");
 }

@@ -1,7 +1,6 @@
 use Rattle.band.proofs.Laws.{in_range}
 use native.Mathlib.Omega.{arith}
 use mathlib.Core.Path.{sym, ◌∙◌}
-use borrow.Author.Rules.{rules}
 use Rattle.band.proofs.numbered.Goals as goal
 
 pub overflow_cast-result : goal.overflow_cast-result

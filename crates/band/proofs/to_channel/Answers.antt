@@ -1,7 +1,6 @@
 use Rattle.band.proofs.Laws.{in_band, in_channels}
 use native.Mathlib.Omega.{arith}
 use mathlib.Core.Path.{sym, ◌∙◌}
-use borrow.Author.Rules.{rules}
 use Rattle.band.proofs.to_channel.Goals as goal
 
 pub overflow_sub-frequency : goal.overflow_sub-frequency

@@ -1,5 +1,4 @@
 use mathlib.Core.Path.{sym, ◌∙◌}
-use borrow.Author.Rules.{rules}
 use Rattle.band.proofs.to_kilohertz.Goals as goal
 
 pub returns-then-is_channel : goal.returns-then-is_channel

@@ -1,11 +1,8 @@
 use Rattle.gf2.proofs.Turns.{add_turn, add_end}
-use Rattle.gf2.specs.Poly.{add}
-use lib.ListN.{length, take, drop, length-set}
+use lib.ListN.{length-set}
 use borrow.Author.Rules.{rules}
 use native.Mathlib.Omega.{arith}
-use Prim.Native.Nat.{◌≤◌, ◌-◌}
-use mathlib.Core.List.{◌++◌}
-use mathlib.Core.Path.{◌≡◌, refl, ◌∙◌}
+use mathlib.Core.Path.{refl, ◌∙◌}
 use Rattle.gf2.proofs.add_in.Goals as goal
 
 pub loop-j-init : goal.loop-j-init

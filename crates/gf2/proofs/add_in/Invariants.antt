@@ -1,12 +1,9 @@
 -- `gf2::add_in`: the places below j are added in already, those from j on are left. Assumes nothing.
-use Rattle.gf2.proofs.Turns.{add_turn, add_end}
 use Rattle.gf2.specs.Poly.{add}
-use lib.ListN.{length, take, drop, length-set}
-use borrow.Author.Rules.{rules}
-use native.Mathlib.Omega.{arith}
+use lib.ListN.{length, take, drop}
 use Prim.Native.Nat.{◌≤◌, ◌-◌}
 use mathlib.Core.List.{◌++◌}
-use mathlib.Core.Path.{◌≡◌, refl, ◌∙◌}
+use mathlib.Core.Path.{◌≡◌}
 use Rattle.gf2.proofs.add_in.Given as goal
 
 abbrev pub invariant-loop-j : goal.invariant-loop-j

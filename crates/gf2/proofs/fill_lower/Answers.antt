@@ -1,14 +1,14 @@
 use Rattle.gf2.proofs.Turns.{length_lower, lower_place}
 use Rattle.gf2.proofs.Lists.{front_turn}
 use Rattle.gf2.specs.Poly.{elem, lower}
-use lib.ListN.{length, take, drop, length-set, drop_of_length-le}
+use lib.ListN.{length, length-set, drop_of_length-le}
 use lib.Seq.{take_all}
 use borrow.Author.Rules.{rules}
 use native.Mathlib.Omega.{arith}
-use Prim.Native.Nat.{ℕ, ◌≤◌, ◌-◌}
+use Prim.Native.Nat.{ℕ, ◌-◌}
 use mathlib.Core.List.{List, ◌++◌, append-nil}
 use mathlib.Core.Bool.{Bool, false}
-use mathlib.Core.Path.{◌≡◌, refl, sym, ◌∙◌, ap, ap₂}
+use mathlib.Core.Path.{refl, sym, ◌∙◌, ap, ap₂}
 use Rattle.gf2.proofs.fill_lower.Goals as goal
 
 pub loop-place-init : goal.loop-place-init

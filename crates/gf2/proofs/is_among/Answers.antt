@@ -1,12 +1,11 @@
 use Rattle.gf2.proofs.Turns.{elem_place}
 use Rattle.gf2.specs.Poly.{elem}
-use lib.ListN.{length, drop, drop_of_length-le}
+use lib.ListN.{drop_of_length-le}
 use borrow.Author.Rules.{rules}
 use borrow.Author.Tests.{eq-eqb, ne_eqb}
 use native.Mathlib.Omega.{arith}
-use Prim.Native.Nat.{◌≤◌, ◌-◌}
 use mathlib.Core.Bool.{true, false}
-use mathlib.Core.Path.{◌≡◌, refl, sym, ◌∙◌, ap}
+use mathlib.Core.Path.{refl, sym, ◌∙◌, ap}
 use Rattle.gf2.proofs.is_among.Goals as goal
 
 pub loop-i-init : goal.loop-i-init

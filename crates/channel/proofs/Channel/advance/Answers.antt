@@ -30,7 +30,7 @@ pub join_on-requires : goal.join_on-requires
 join_on-requires c =
     let a = c.args in
     let p = c.requires in
-    (omega (arith, rule_bytes a.self p.0, c.if-self-ge-MOST_GATHERED.false), p.2.3, rw part_to_end (length-drop 2 a.information.now ∙ omega (arith, p.1)))
+    (omega (arith, rule_bytes a.self p.0), p.2.3, rw part_to_end (length-drop 2 a.information.now ∙ omega (arith, p.1)))
 
 pub returns : goal.returns
 returns c =
