@@ -8,7 +8,7 @@ ghost use Rattle.answers.specs.Numbers.{number_of};
 pub const INFORMATION_BYTES: usize = 22;
 
 // Why something was refused. A success has no number: its name stands in the answer of each function.
-#[derive(Drop)]
+#[derive(Clone, Copy)]
 pub enum Refusal {
     WrongLength,
     NoCodeWord,
@@ -27,7 +27,7 @@ pub enum Refusal {
 }
 
 // Whether something was done, where nothing else needs telling.
-#[derive(Drop)]
+#[derive(Clone, Copy)]
 pub enum Answer {
     Accepted,
     Refused(Refusal),

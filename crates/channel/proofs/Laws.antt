@@ -6,10 +6,10 @@ use mathlib.Core.List.{List, ◌++◌, append_assoc}
 use native.Mathlib.Omega.{arith}
 use borrow.Author.Tests.{eqb-true, leb-true}
 use borrow.Author.Rules.{part_to_end}
-use borrow.Rule.Slice.PartMut.{put_mid}
+use borrow.Rule.Slice.PartMut.{put_mid, post_of, Post-is}
 use lib.Dec.{eqb, leb}
 use lib.ListN.{length, take, drop}
-use lib.Seq.{paste, drop-drop}
+use lib.Seq.{paste, drop-drop, take-length}
 use Rattle.gf2.proofs.Lists.{tail_back}
 use Rattle.header.specs.Header.{check}
 use Rattle.header.proofs.Bits.{check_wider}
@@ -57,3 +57,11 @@ copied buffer s filled at n l e =
     front
     ∙ ap (λ (r : List ℕ). take at buffer ++ r) (e ∙ ap (λ (r : List ℕ). take k s ++ r) rest)
     ∙ sym (append_assoc (take at buffer) (take k s) (drop (at + k) buffer))
+
+-- the place that a part takes is overwritten with it
+pub copied_in : (buffer s filled : List ℕ) (at : ℕ) → filled ≡ s → put_mid at (at + length s - at) buffer filled ≡ paste buffer at s (length s)
+copied_in buffer s filled at e =
+    let k = length s in
+    let whole : filled ≡ take k s = e ∙ sym (take-length s) in
+    let rest : post_of at (at + k - at) buffer ≡ drop (at + k) buffer = Post-is at (at + k) buffer (omega arith) in
+    (λ i. take at buffer ++ (whole i ++ rest i)) ∙ sym (append_assoc (take at buffer) (take k s) (drop (at + k) buffer))

@@ -4,7 +4,7 @@ ghost use Rattle.header.specs.Header.{total, holds};
 ghost use Rattle.channel.specs.Layer3.{layer3, header_of, si_lch_of, lf_of, sc_of};
 
 // The fields of a block's header but for DI, which may be either, and whether its check is right.
-#[derive(Drop)]
+#[derive(Clone, Copy)]
 pub struct BlockHeader {
     pub si_lch: u8,
     pub lf: bool,

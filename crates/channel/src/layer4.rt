@@ -7,7 +7,7 @@ use crate::{DATA_IN_BLOCK, Header, MOST_GATHERED, Step};
 use answers::Refusal;
 
 // A header as it stands in the bytes, before its tests.
-#[derive(Drop)]
+#[derive(Clone, Copy)]
 pub struct Opened {
     pub header: Header,
     pub rfa: u8,

@@ -27,7 +27,7 @@ pub const LAST_NUMBER: u16 = 16383;
 
 pub const MOST_DATA: usize = 255;
 
-#[derive(Drop)]
+#[derive(Clone, Copy)]
 pub enum Phase {
     Waiting,
     Ready,
@@ -36,7 +36,7 @@ pub enum Phase {
 
 // A channel: `expected` is the SC of the next block, and the bytes gathered so far are the first of `bytes`. These stand last in the
 // struct, which saves a copy of them at each step.
-#[derive(Drop)]
+#[derive(Clone, Copy)]
 pub struct Channel {
     pub gathered: usize,
     pub phase: Phase,
@@ -46,7 +46,7 @@ pub struct Channel {
 
 // The header of a message: its fields but for RFA and CAF, which are zero; `number` is the service number, `length`
 // that of the data, and `size` that of the header, so that the data stands from byte `size` of the channel.
-#[derive(Drop)]
+#[derive(Clone, Copy)]
 pub struct Header {
     pub ri: u8,
     pub ci: u8,
@@ -61,7 +61,7 @@ pub struct Header {
 
 // The fields of a message that a group joins and the writers take: EXT follows from the number, the data length from
 // the data.
-#[derive(Drop)]
+#[derive(Clone, Copy)]
 pub struct Fields {
     pub ri: u8,
     pub ci: u8,
@@ -71,14 +71,14 @@ pub struct Fields {
     pub command: bool,
 }
 
-#[derive(Drop)]
+#[derive(Clone, Copy)]
 pub enum Step {
     Taken,
     Message(Header),
     Refused(Refusal),
 }
 
-#[derive(Drop)]
+#[derive(Clone, Copy)]
 pub struct Stepped {
     pub answer: Step,
     pub channel: Channel,

@@ -77,7 +77,7 @@ pub(crate) fn join_on(channel: Channel, header: BlockHeader, twenty: &[u8]) -> S
     let end = at + DATA_IN_BLOCK;
     let next = (header.sc + 1) % 16;
     let mut bytes = channel.bytes;
-    bytes::copy(twenty, &mut bytes[at..]);
+    bytes[at..at + twenty.len()].copy_from_slice(twenty);
     if header.lf {
         let answer = layer4::read(&bytes[..end]);
         let channel = Channel {

@@ -19,6 +19,7 @@ use Rattle.gf2.proofs.Remainders.{check_bit, length_check, add_none, all_zero, a
 use Rattle.gf2.proofs.Tested.{tested}
 use Rattle.header.specs.Header.{bits, six}
 use Rattle.header.proofs.Bits.{bit_of, length_bits, bits_more, onto}
+use Rattle.header.proofs.Table.{summed}
 
 -- a number is odd
 abbrev odd : ℕ → Bool
@@ -75,12 +76,7 @@ more_sums : (masks : List ℕ) (n x : ℕ) → sums masks (suc n) x ≡ add (sca
 more_sums [] n x = refl
 more_sums (m ∷ masks) n x = ap₂ (λ (b : Bool) (bs : List Bool). b ∷ bs) (sum_more n x m) (more_sums masks n x)
 
--- the table of the code
-abbrev summed : List ℕ
-summed =
-    11572266111415215470 ∷ 15009505092562383543 ∷ 5241853629811235893 ∷ 344408522773965684 ∷ 9395576298241758650 ∷ 4697788149120879325 ∷ []
-
--- IT HAS AT EACH BIT THE CHECK BITS THAT THIS BIT BRINGS IN
+-- THE TABLE HAS AT EACH BIT THE CHECK BITS THAT THIS BIT BRINGS IN
 as_table : (n : ℕ) → n < 64 → brought n ≡ summing summed n
 as_table n h =
     let both = add (brought n) (summing summed n) in
