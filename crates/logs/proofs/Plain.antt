@@ -8,7 +8,7 @@ use lib.ListN.{length, get_or, take, drop}
 use lib.Seq.{length-take-le}
 use lib.Dec.{eqb, eqb-zero-suc, eqb-suc-suc}
 use borrow.Author.Tests.{ne_eqb, eqb-true, eqb-false}
-use Rattle.bytes.specs.Bytes.{index_of, index_after, slice}
+use Rattle.text.specs.Find.{index_of, index_after}
 use Rattle.logs.specs.Reader.{is_plain}
 use Rattle.logs.proofs.Lists.{by_cases}
 
@@ -67,8 +67,5 @@ plain_found (x ∷ l) = go (eqb x 10) (plain_found l)
     go true e = sym (eqb-zero-suc (length l))
     go false e = e ∙ sym (eqb-suc-suc (index_of 10 l) (length l))
 
-pub held_plain : (l : List ℕ) (n e : ℕ) → n ≤ length l → e ≡ 0 + index_of 10 (slice 0 n l) → is_plain (take n l) ≡ eqb e n
-unfolding slice
-held_plain l n e h w =
-    let found : index_of 10 (take n l) ≡ e = omega (arith, w) in
-    plain_found (take n l) ∙ (λ i. eqb (found i) (length-take-le n l h i))
+pub held_plain : (l : List ℕ) (n e : ℕ) → n ≤ length l → e ≡ index_of 10 (take n l) → is_plain (take n l) ≡ eqb e n
+held_plain l n e h w = plain_found (take n l) ∙ (λ i. eqb (sym w i) (length-take-le n l h i))

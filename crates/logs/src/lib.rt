@@ -18,7 +18,7 @@ pub use count::is_counts;
 const GREATEST_SLOT: u32 = 999999;
 
 // The channel, 0 before the first line, and the counts of its slots' outcomes.
-#[derive(Drop)]
+#[derive(Clone, Copy)]
 pub struct Counts {
     pub channel: u8,
     pub slots: u32,
@@ -41,7 +41,7 @@ pub struct LogRead {
 // The longest line, without its line feed.
 pub const LONGEST_LINE: usize = 63;
 
-#[derive(Drop)]
+#[derive(Clone, Copy)]
 pub enum Phase {
     Open,
     Refused,
@@ -49,7 +49,7 @@ pub enum Phase {
 }
 
 // The state between two bytes. The first `length` bytes held are the line so far, and the others are 0.
-#[derive(Drop)]
+#[derive(Clone, Copy)]
 pub struct Reader {
     pub phase: Phase,
     pub counts: Counts,

@@ -34,7 +34,7 @@ fn is_held(held: &[u8], count: usize) -> bool
     ensures { result ≡ is_held held.now count }
 {
     let zeros = [0u8; LONGEST_LINE];
-    (bytes::scan::find(held, 0, count, b'\n') == count)
+    (text::find(&held[..count], b'\n') == count)
         & text::same(&held[count..], &zeros[count..])
 }
 
