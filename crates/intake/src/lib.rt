@@ -74,15 +74,20 @@ fn read_some<I: Read>(input: &mut I, reader: Reader, room: &mut [u8]) -> Taken
 {
     match input.read(room) {
         Ok(0) => ended(reader, None),
-        Ok(count) => {
-            let fed = logs::feed(reader, &room[..count]);
-            Taken {
-                reader: fed.reader,
-                more: true,
-                failed: None,
-            }
-        }
+        Ok(count) => take_piece(reader, &room[..count]),
         Err(error) => ended(reader, Some(error)),
+    }
+}
+
+fn take_piece(reader: Reader, piece: &[u8]) -> Taken
+    requires { Reached reader }
+    ensures { Reached result.reader }
+{
+    let fed = logs::feed(reader, piece);
+    Taken {
+        reader: fed.reader,
+        more: true,
+        failed: None,
     }
 }
 
