@@ -86,7 +86,7 @@ join_on-requires-2 c =
     let rule = sym c.keeps_rule.ensures ∙ c.if-not-keeps_rule.false in
     let fits = sym c.message_fits.ensures ∙ c.if-not-message_fits.false in
     let r = rule_room a.self rule in
-    (c.if-self-ge-MOST_MESSAGES.false, omega (arith, r, c.if-buffer-lt-MOST_BYTES.false, (within_bounds a.message (length a.«data».now) fits).1, c.if-self-ge-MOST_MESSAGES.false))
+    (omega arith, omega (arith, r, c.if-buffer-lt-MOST_BYTES.false, (within_bounds a.message (length a.«data».now) fits).1))
 
 pub returns : goal.returns
 returns c =
