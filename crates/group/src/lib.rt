@@ -12,7 +12,7 @@ mod state;
 use answers::{Answer, Refusal};
 use channel::{Fields, LAST_NUMBER};
 
-#[derive(Drop)]
+#[derive(Clone, Copy)]
 pub enum Phase {
     Idle,
     Gathering,
@@ -20,7 +20,7 @@ pub enum Phase {
 
 // A group of one service number: the bytes held and the messages joined so far, and of the message last joined on its CI
 // and the length of its data.
-#[derive(Drop)]
+#[derive(Clone, Copy)]
 pub struct Group {
     pub number: u16,
     pub phase: Phase,
@@ -31,14 +31,14 @@ pub struct Group {
 }
 
 // The answer to being asked for a state, and the state.
-#[derive(Drop)]
+#[derive(Clone, Copy)]
 pub struct Made {
     pub answer: Answer,
     pub group: Group,
 }
 
 // `Whole` is the answer "group", with the group's length.
-#[derive(Drop)]
+#[derive(Clone, Copy)]
 pub enum Step {
     Taken,
     Repeat,
@@ -47,7 +47,7 @@ pub enum Step {
 }
 
 // The answer to a message, and the state that it leaves.
-#[derive(Drop)]
+#[derive(Clone, Copy)]
 pub struct Stepped {
     pub answer: Step,
     pub group: Group,

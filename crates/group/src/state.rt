@@ -123,7 +123,8 @@ pub(crate) fn join_on(group: Group, message: Fields, data: &[u8], buffer: &mut [
 {
     let at = group.held;
     let number = group.number;
-    let end = at + bytes::copy(data, &mut buffer[at..]);
+    let end = at + data.len();
+    buffer[at..end].copy_from_slice(data);
     if message.last {
         return Stepped {
             answer: Step::Whole(end),
