@@ -85,7 +85,7 @@ fn correct_row(row: &mut [u8]) -> u16
     ensures { Becomes (row_of row.old) (row_of row.new) result }
 {
     let mut received = [0u8; BLOCK_BYTES];
-    bytes::copy(row, &mut received);
+    received.copy_from_slice(row);
     let corrected = block::correct(&received, row);
     let answer = corrected.answer;
     match answer {
