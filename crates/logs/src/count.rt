@@ -48,7 +48,7 @@ pub(crate) fn tuned_to(channel: u8) -> Counts
 
 // The counts with one slot more.
 pub(crate) fn count_one(counts: Counts, outcome: u8) -> Counts
-    requires counts_value { is_sound counts ≡ true }
+    requires sound { is_sound counts ≡ true }
     requires slots_lt_greatest_slot { counts.slots < greatest_slot }
     ensures { result ≡ counted counts outcome }
 {

@@ -70,6 +70,7 @@ fn is_next(slots: u32, line: &[u8]) -> bool
 }
 
 // Whether the text is the number in decimal, compared from the last digit on.
+#[tactic(auto, using(crate::proofs::Lines::more_digits))]
 fn spells(text: &[u8], number: u32) -> bool
     ensures { result ≡ same_as text.now (decimal number) }
 {

@@ -47,7 +47,7 @@ pub(crate) fn run(reader: Reader, piece: &[u8]) -> Reader
 // Takes the good lines of slots that start here and stand whole in the piece, or else the bytes of one line. After a refusal the rest
 // of the piece plays no part.
 fn take_turn(reader: Reader, piece: &[u8], from: usize) -> Turn
-    requires reader_value { is_reader reader ≡ true }
+    requires ruled { is_reader reader ≡ true }
     requires held_len { length reader.held ≡ longest_line }
     requires from_in_bounds { from < length piece.now }
     ensures goes { Goes piece.now reader from result.reader result.at }
@@ -82,7 +82,7 @@ pub(crate) fn is_refused(phase: Phase) -> bool
 
 // Takes the good lines of slots that stand whole in the piece from here on.
 fn whole_lines(counts: Counts, piece: &[u8], from: usize) -> Turn
-    requires counts_value { is_before counts ≡ true }
+    requires before { is_before counts ≡ true }
     requires from_in_bounds { from ≤ length piece.now }
     ensures { Goes piece.now (between (Phase.Open) counts) from result.reader result.at }
 {
@@ -107,8 +107,8 @@ fn whole_lines(counts: Counts, piece: &[u8], from: usize) -> Turn
 
 // Takes the bytes of a line up to the one at which it is judged, or all that there are.
 fn take_line(reader: Reader, piece: &[u8], from: usize) -> Turn
-    requires reader_value { is_reader reader ≡ true }
-    requires phase_value { is_open reader.phase ≡ true }
+    requires ruled { is_reader reader ≡ true }
+    requires open { is_open reader.phase ≡ true }
     requires held_len { length reader.held ≡ longest_line }
     requires from_in_bounds { from < length piece.now }
     ensures goes { Goes piece.now reader from result.reader result.at }

@@ -34,8 +34,7 @@ fn is_held(held: &[u8], count: usize) -> bool
     ensures { result ≡ is_held held.now count }
 {
     let zeros = [0u8; LONGEST_LINE];
-    (text::find(&held[..count], b'\n') == count)
-        & text::same(&held[count..], &zeros[count..])
+    (text::find(&held[..count], b'\n') == count) & text::same(&held[count..], &zeros[count..])
 }
 
 // Whether these are the counts before some line.

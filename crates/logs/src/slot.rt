@@ -22,7 +22,7 @@ struct Numeral {
 
 // Where the next slot's line has its line feed, or the end of the piece where that line does not stand here.
 pub(crate) fn slot_end(counts: Counts, piece: &[u8], from: usize) -> usize
-    requires counts_value { is_before counts ≡ true }
+    requires before { is_before counts ≡ true }
     requires from_in_bounds { from ≤ length piece.now }
     ensures upper_bound { result ≤ length piece.now }
     ensures next_slot { result < length piece.now → NextSlot counts piece.now from result }
@@ -47,7 +47,7 @@ pub(crate) fn slot_end(counts: Counts, piece: &[u8], from: usize) -> usize
 // The number that the digits here spell, six of them at most.
 fn digits_at(text: &[u8], from: usize) -> Numeral
     requires from_in_bounds { from + 6 ≤ length text.now }
-    requires fact { get_or text.now from 0 ≡ byte "0" → ⊥ }
+    requires not_zero { get_or text.now from 0 ≡ byte "0" → ⊥ }
     ensures { DigitsAt text.now from result.end result.number }
 {
     let mut number = 0;

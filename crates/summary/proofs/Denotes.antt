@@ -18,7 +18,7 @@ use lib.Ieee.Positive.{num, den, den_pos}
 use lib.Ieee.Scale.{round_same}
 use lib.ListN.{length}
 use borrow.Author.Tests.{eqb-true, eqb-false, ne_eqb, le-leb}
-use Rattle.bytes.specs.Bytes.{index_of, index_after}
+use Rattle.text.specs.Find.{index_of, index_after}
 use Rattle.answers.specs.Numbers.{accepted}
 use Rattle.answers.proofs.Determined.{refused_accepted}
 use Rattle.logs.specs.declared.Counts.{Counts}

@@ -10,7 +10,7 @@ use answers::{Answer, Refusal};
 
 const ROOM: usize = 512;
 
-#[derive(Drop)]
+#[derive(Clone, Copy)]
 pub struct Text {
     pub bytes: [u8; ROOM],
     pub length: usize,
@@ -86,7 +86,7 @@ pub(crate) fn deliver(text: Text, out: &mut [u8]) -> Written
             length: 0,
         };
     }
-    bytes::copy(&held[..length], out);
+    out[..length].copy_from_slice(&held[..length]);
     Written {
         answer: Answer::Accepted,
         length,

@@ -23,7 +23,7 @@ use logs::{Counts, LogRead};
 
 // The mean of corrected bits over the blocks that were read, and the share of the slots in which nothing was received, each beside
 // the flag that says whether it exists. With a clear flag the number is positive zero.
-#[derive(Drop)]
+#[derive(Clone, Copy)]
 pub struct Summary {
     pub mean_exists: bool,
     pub mean: f64,

@@ -3,7 +3,6 @@ use mathlib.Core.Path.{sym, ◌∙◌}
 use mathlib.Core.Bool.{and-eq-true_iff}
 use native.Mathlib.Omega.{arith}
 use borrow.Author.Tests.{leb-true}
-use borrow.Author.Rules.{rules}
 use Rattle.logs.proofs.count.bits_of.Goals as goal
 
 pub overflow_sub-result : goal.overflow_sub-result

@@ -48,22 +48,22 @@ byte_one true = refl
 byte_one false = refl
 
 pub overflow_add-result-2 : goal.overflow_add-result-2
-overflow_add-result-2 c = room _ _ (low c.args.counts c.requires.counts_value c.requires.slots_lt_greatest_slot).read (bit _)
+overflow_add-result-2 c = room _ _ (low c.args.counts c.requires.sound c.requires.slots_lt_greatest_slot).read (bit _)
 
 pub overflow_add-result-3 : goal.overflow_add-result-3
-overflow_add-result-3 c = room _ _ (low c.args.counts c.requires.counts_value c.requires.slots_lt_greatest_slot).clean (bit _)
+overflow_add-result-3 c = room _ _ (low c.args.counts c.requires.sound c.requires.slots_lt_greatest_slot).clean (bit _)
 
 pub overflow_add-result-4 : goal.overflow_add-result-4
-overflow_add-result-4 c = room _ _ (low c.args.counts c.requires.counts_value c.requires.slots_lt_greatest_slot).bits c.bits_of.ensures.upper_bound
+overflow_add-result-4 c = room _ _ (low c.args.counts c.requires.sound c.requires.slots_lt_greatest_slot).bits c.bits_of.ensures.upper_bound
 
 pub overflow_add-result-5 : goal.overflow_add-result-5
-overflow_add-result-5 c = room _ _ (low c.args.counts c.requires.counts_value c.requires.slots_lt_greatest_slot).noword (bit _)
+overflow_add-result-5 c = room _ _ (low c.args.counts c.requires.sound c.requires.slots_lt_greatest_slot).noword (bit _)
 
 pub overflow_add-result-6 : goal.overflow_add-result-6
-overflow_add-result-6 c = room _ _ (low c.args.counts c.requires.counts_value c.requires.slots_lt_greatest_slot).check (bit _)
+overflow_add-result-6 c = room _ _ (low c.args.counts c.requires.sound c.requires.slots_lt_greatest_slot).check (bit _)
 
 pub overflow_add-result-7 : goal.overflow_add-result-7
-overflow_add-result-7 c = room _ _ (low c.args.counts c.requires.counts_value c.requires.slots_lt_greatest_slot).missing (bit _)
+overflow_add-result-7 c = room _ _ (low c.args.counts c.requires.sound c.requires.slots_lt_greatest_slot).missing (bit _)
 
 pub returns : goal.returns
 unfolding counted

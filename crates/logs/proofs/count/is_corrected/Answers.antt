@@ -1,4 +1,3 @@
-
 use Rattle.logs.proofs.count.is_corrected.Goals as goal
 
 pub returns : goal.returns

@@ -1,6 +1,5 @@
 -- `logs::count::is_counts` makes both tests. Assumes nothing.
 use Rattle.logs.specs.Log.{is_counts}
-use borrow.Author.Rules.{rules}
 use Rattle.logs.proofs.count.is_counts.Goals as goal
 
 pub returns : goal.returns

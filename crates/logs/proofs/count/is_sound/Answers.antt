@@ -2,7 +2,6 @@
 use Rattle.logs.specs.Log.{is_sound}
 use mathlib.Core.Bool.{and-true, and-false}
 use borrow.Author.Tests.{le-leb, lt-leb}
-use borrow.Author.Rules.{rules}
 use Rattle.logs.proofs.count.is_sound.Goals as goal
 
 pub returns-then-counts : goal.returns-then-counts

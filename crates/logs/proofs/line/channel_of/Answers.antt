@@ -1,7 +1,5 @@
 use Rattle.logs.proofs.Lines.{channel_none, channel_here, channel_next}
-use Rattle.logs.specs.Log.{channel_up_to}
-use Prim.Native.Nat.{◌≤◌}
-use mathlib.Core.Path.{◌≡◌, sym, ◌∙◌, refl}
+use mathlib.Core.Path.{sym, ◌∙◌, refl}
 use native.Mathlib.Omega.{arith}
 use Rattle.logs.proofs.line.channel_of.Goals as goal
 
@@ -10,12 +8,6 @@ loop-channel-init c = (omega arith, refl)
 
 pub returns-then-is_first : goal.returns-then-is_first
 returns-then-is_first c = let p = c.loop-channel in sym (p.invariant.1 ∙ channel_here p.channel _ (omega arith) (sym c.is_first.ensures ∙ c.if-is_first.true))
-
-pub overflow_sub-channel : goal.overflow_sub-channel
-overflow_sub-channel c = omega arith
-
-pub loop-channel-smaller : goal.loop-channel-smaller
-loop-channel-smaller c = omega arith
 
 pub loop-channel-preserved : goal.loop-channel-preserved
 loop-channel-preserved c = let p = c.loop-channel in (omega arith, p.invariant.1 ∙ channel_next p.channel _ (omega arith) (sym c.is_first.ensures ∙ c.if-is_first.false))

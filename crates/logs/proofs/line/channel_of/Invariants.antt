@@ -1,8 +1,6 @@
-use Rattle.logs.proofs.Lines.{channel_none, channel_here, channel_next}
 use Rattle.logs.specs.Log.{channel_up_to}
 use Prim.Native.Nat.{◌≤◌}
-use mathlib.Core.Path.{◌≡◌, sym, ◌∙◌, refl}
-use native.Mathlib.Omega.{arith}
+use mathlib.Core.Path.{◌≡◌}
 use Rattle.logs.proofs.line.channel_of.Given as goal
 
 abbrev pub invariant-loop-channel : goal.invariant-loop-channel

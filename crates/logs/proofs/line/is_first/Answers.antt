@@ -7,9 +7,7 @@ use mathlib.Core.List.{List}
 use mathlib.Core.Path.{sym, ap, ◌∙◌}
 use native.Mathlib.Omega.{arith}
 use lib.Seq.{length-take-le}
-use borrow.Author.Rules.{rules}
 use borrow.Author.Rules.{part_to_end}
-use Rattle.text.proofs.same.Reads as same_Reads
 use Rattle.logs.proofs.line.is_first.Goals as goal
 
 pub returns-then-line-lt8 : goal.returns-then-line-lt8

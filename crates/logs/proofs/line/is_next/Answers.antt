@@ -9,7 +9,6 @@ use borrow.Author.Tests.{lt-ltb, le-ltb}
 use lib.Dec.{ltb}
 use lib.ListN.{length, get_or}
 use lib.Seq.{length-take-le}
-use borrow.Author.Rules.{rules}
 use Rattle.logs.proofs.line.is_next.Goals as goal
 
 pub returns-then-slots-ge-GREATEST_SLOT : goal.returns-then-slots-ge-GREATEST_SLOT

@@ -1,12 +1,7 @@
 use Rattle.text.specs.Fields.{same_as}
-use Rattle.logs.proofs.Lines.{digit_here, digits_out, one_digit, more_digits}
 use Rattle.logs.specs.Decimal.{decimal}
-use Prim.Native.Nat.{ℕ, ◌≤◌, ◌<◌, ◌^◌}
-use mathlib.Core.Path.{◌≡◌, sym, ◌∙◌, ap}
-use mathlib.Core.Bool.{and-false, and-true}
-use borrow.Author.Tests.{ne_eqb, eq-eqb}
-use native.Mathlib.Omega.{arith}
-use lib.Seq.{take_all}
+use Prim.Native.Nat.{◌≤◌, ◌<◌, ◌^◌}
+use mathlib.Core.Path.{◌≡◌}
 use lib.ListN.{length, take}
 use Rattle.logs.proofs.line.spells.Given as goal
 

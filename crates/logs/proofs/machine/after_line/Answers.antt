@@ -1,5 +1,4 @@
 use mathlib.Core.Path.{sym, ◌∙◌}
-use borrow.Author.Rules.{rules}
 use Rattle.logs.proofs.machine.after_line.Goals as goal
 
 pub returns-then-judged : goal.returns-then-judged

@@ -1,6 +1,4 @@
-use Rattle.logs.proofs.Goes.{goes_start, goes_on, goes_end}
-use Rattle.logs.specs.Machine.{Goes}
-use Prim.Native.Nat.{◌-◌}
+use Rattle.logs.proofs.Goes.{goes_start, goes_end}
 use mathlib.Core.Path.{◌≡◌, sym}
 use borrow.Author.Rules.{rules}
 use native.Mathlib.Omega.{arith}

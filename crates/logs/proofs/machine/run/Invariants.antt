@@ -1,9 +1,5 @@
-use Rattle.logs.proofs.Goes.{goes_start, goes_on, goes_end}
 use Rattle.logs.specs.Machine.{Goes}
 use Prim.Native.Nat.{◌-◌}
-use mathlib.Core.Path.{◌≡◌, sym}
-use borrow.Author.Rules.{rules}
-use native.Mathlib.Omega.{arith}
 use lib.ListN.{length}
 use Rattle.logs.proofs.machine.run.Given as goal
 

@@ -14,11 +14,11 @@ returns c = c.take_line.ensures
 pub returns-then-is_refused-clause-goes : goal.returns-then-is_refused-clause-goes
 returns-then-is_refused-clause-goes c =
     let s = c.args.reader in
-    goes_shut _ s c.args.from (c.requires.reader_value, c.requires.held_len) (not-true (is_open s.phase) (sym c.is_refused.ensures ∙ c.if-is_refused.true))
+    goes_shut _ s c.args.from (c.requires.ruled, c.requires.held_len) (not-true (is_open s.phase) (sym c.is_refused.ensures ∙ c.if-is_refused.true))
     (omega (arith, c.requires.from_in_bounds))
 
-pub whole_lines-turn-requires-clause-counts_value : goal.whole_lines-turn-requires-clause-counts_value
-whole_lines-turn-requires-clause-counts_value c = (ruled _ c.requires.reader_value).before
+pub whole_lines-turn-requires-clause-before : goal.whole_lines-turn-requires-clause-before
+whole_lines-turn-requires-clause-before c = (ruled _ c.requires.ruled).before
 
 pub returns-then-from-turn-clause-goes : goal.returns-then-from-turn-clause-goes
 returns-then-from-turn-clause-goes c =
@@ -26,4 +26,4 @@ returns-then-from-turn-clause-goes c =
     let o = not-false (is_open s.phase) (sym c.is_refused.ensures ∙ c.if-is_refused.false) in
     let w = c.whole_lines-turn in
     subst (λ (t : Reader). Goes c.args.piece.now t c.args.from w.result.reader w.result.at)
-    (sym (open_between s (c.requires.reader_value, c.requires.held_len) o c.if-reader-eq0.true)) w.ensures
+    (sym (open_between s (c.requires.ruled, c.requires.held_len) o (omega arith))) w.ensures

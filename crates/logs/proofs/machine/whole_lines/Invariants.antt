@@ -1,12 +1,7 @@
 use Prim.Native.Nat.{◌-◌}
-use Rattle.logs.proofs.Goes.{goes_start, goes_on, goes_slot}
-use Rattle.logs.proofs.Runs.{ruled, between_ruled}
-use Rattle.logs.proofs.Outcomes.{before_sound}
 use Rattle.logs.specs.Machine.{Goes}
 use Rattle.logs.specs.Reader.{between}
 use Rattle.logs.specs.declared.Phase.TheVariants.{Open}
-use mathlib.Core.Path.{refl}
-use native.Mathlib.Omega.{arith}
 use lib.ListN.{length}
 use Rattle.logs.proofs.machine.whole_lines.Given as goal
 

@@ -7,8 +7,6 @@ use mathlib.Core.Bool.{Bool, true, false, cond, ◌&&◌, ◌||◌, or-false}
 use mathlib.Core.Path.{◌≡◌, refl, ap, ◌∙◌}
 use borrow.Author.Tests.{eqb-true}
 use lib.Dec.{eqb}
-use borrow.Author.Rules.{rules}
-use Rattle.band.proofs.is_channel.Reads as is-channel-reads
 use Rattle.logs.proofs.rule.is_before.Goals as goal
 
 either : (channel : ℕ) (none b : Bool) → eqb channel 0 ≡ b → (b && none || is_channel channel) ≡ cond b none (is_channel channel)

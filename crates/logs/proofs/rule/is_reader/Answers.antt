@@ -1,9 +1,6 @@
 -- `logs::rule::is_reader`: what is held is looked at where its length is good. Assumes nothing.
 use Rattle.logs.specs.Reader.{is_reader}
-use Rattle.logs.proofs.Runs.{small}
-use lib.ListN.{length}
-use mathlib.Core.Path.{◌≡◌, sym, ◌∙◌}
-use borrow.Author.Rules.{rules}
+use mathlib.Core.Path.{sym, ◌∙◌}
 use Rattle.logs.proofs.rule.is_reader.Goals as goal
 
 pub returns : goal.returns

@@ -1,9 +1,5 @@
-use lib.ListN.{get_or}
 use Rattle.logs.proofs.Slots.{reads_none, reads_digit, reads_small}
-use Rattle.logs.specs.Machine.{DigitsAt}
 use Rattle.band.proofs.Laws.{within}
-use Prim.Native.Nat.{◌+◌, ◌-◌}
-use borrow.Author.Tests.{not-false}
 use mathlib.Core.Path.{sym, ◌∙◌}
 use native.Mathlib.Omega.{arith}
 use Rattle.logs.proofs.slot.digits_at.Goals as goal
@@ -19,9 +15,6 @@ overflow_mul-number c =
     let p = c.loop-at in
     omega (arith, reads_small _ _ _ _ p.invariant)
 
-pub loop-at-smaller : goal.loop-at-smaller
-loop-at-smaller c = omega arith
-
 pub returns : goal.returns
 returns c = c.loop-at.invariant
 
@@ -30,4 +23,4 @@ loop-at-preserved c =
     let p = c.loop-at in
     let q = c.requires in
     let d = within 48 _ 57 (sym c.is_digit.ensures ∙ c.if-not-is_digit.false) in
-    reads_digit _ _ p.at p.number p.invariant (omega arith) (omega (arith, q.from_in_bounds)) q.fact d.0 d.1
+    reads_digit _ _ p.at p.number p.invariant (omega arith) (omega (arith, q.from_in_bounds)) q.not_zero d.0 d.1

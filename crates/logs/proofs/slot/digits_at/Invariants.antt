@@ -1,11 +1,5 @@
-use lib.ListN.{get_or}
-use Rattle.logs.proofs.Slots.{reads_none, reads_digit, reads_small}
 use Rattle.logs.specs.Machine.{DigitsAt}
-use Rattle.band.proofs.Laws.{within}
 use Prim.Native.Nat.{◌+◌, ◌-◌}
-use borrow.Author.Tests.{not-false}
-use mathlib.Core.Path.{sym, ◌∙◌}
-use native.Mathlib.Omega.{arith}
 use Rattle.logs.proofs.slot.digits_at.Given as goal
 
 abbrev pub invariant-loop-at : goal.invariant-loop-at

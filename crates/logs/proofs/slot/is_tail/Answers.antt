@@ -1,5 +1,4 @@
 -- `logs::slot::is_tail` makes every test. Assumes nothing.
-use borrow.Author.Rules.{rules}
 use Rattle.logs.proofs.slot.is_tail.Goals as goal
 
 pub returns : goal.returns
