@@ -16,11 +16,6 @@ use Rattle.block.specs.Corrector.{Sized}
 use Rattle.block.proofs.Lengths.{sized_so, not_sized}
 use Rattle.block.proofs.correct.Goals as goal
 
-pub returns-then-not-received-out : goal.returns-then-not-received-out
-returns-then-not-received-out c =
-    let m = c.missed.ensures in
-    inl (record { wrong = not_sized 34 34 _ _ (ap not c.if-not-received-out.true); answers = m.0; counts = m.1; places = m.2; same = refl })
-
 pub returns-then-not-found : goal.returns-then-not-found
 returns-then-not-found c =
     let sized : Sized 34 34 c.args.received.now c.args.out.now = sized_so 34 34 _ _ (ap not c.if-not-received-out.false) in
@@ -50,3 +45,8 @@ returns c =
       long = f.ensures.long ∙ sized.output;
       written = f.ensures.block room ∙ take_all (8 * length c.args.out.now) (row_of_words c.search-found.result.word) (omega (arith, sized.output, length_row c.search-found.result.word met.0.five));
     }))
+
+pub returns-then-not-received-out : goal.returns-then-not-received-out
+returns-then-not-received-out c =
+    let m = c.missed.ensures in
+    inl (record { wrong = not_sized 34 34 _ _ (ap not c.if-not-received-out.true); answers = m.0; counts = m.1; places = m.2; same = refl })

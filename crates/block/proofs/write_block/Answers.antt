@@ -12,9 +12,6 @@ use mathlib.Core.Path.{◌≡◌, refl, ap, ◌∙◌}
 use borrow.Author.Rules.{rules}
 use Rattle.block.proofs.write_block.Goals as goal
 
-pub returns-then-not-information-out : goal.returns-then-not-information-out
-returns-then-not-information-out c = inl (record { wrong = not_sized 22 34 _ _ (ap not c.if-not-information-out.true); answers = refl; same = refl })
-
 pub fill_row-requires : goal.fill_row-requires
 fill_row-requires c =
     let sized : Sized 22 34 c.args.information.now c.args.out.now = sized_so 22 34 _ _ (ap not c.if-not-information-out.false) in
@@ -46,3 +43,6 @@ returns c =
       written = c.fill_bytes.ensures ∙ take_all (8 * length c.args.out.now) c.append-word.result (omega (arith, sized.output))
           ∙ block_row_lem _ _ _ _ sized.input c.fill_row.ensures c.divisor-divisor.ensures c.generator_row-generator.ensures _ c.append-checked.ensures _ c.append-word.ensures;
     })
+
+pub returns-then-not-information-out : goal.returns-then-not-information-out
+returns-then-not-information-out c = inl (record { wrong = not_sized 22 34 _ _ (ap not c.if-not-information-out.true); answers = refl; same = refl })
