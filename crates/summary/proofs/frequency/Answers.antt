@@ -1,0 +1,7 @@
+use Rattle.band.specs.Band.{ToldNumber}
+use mathlib.Core.Path.{ap}
+use borrow.Author.Rules.{rules}
+use Rattle.summary.proofs.frequency.Goals as goal
+
+pub returns : goal.returns
+returns c = ap (λ (t : ToldNumber). t.number) c.to_kilohertz-found.ensures
