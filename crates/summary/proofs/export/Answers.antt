@@ -1,11 +1,8 @@
 use Prim.Native.Nat.{ℕ}
-use mathlib.Core.Path.{◌≡◌, ◌∙◌, ap, sym}
-use mathlib.Core.Bool.{true}
+use mathlib.Core.Path.{◌∙◌, ap, sym}
 use mathlib.Core.List.{List}
 use lib.Dec.{T}
 use lib.Ieee.{binary64, fits}
-use Rattle.logs.specs.Log.{is_counts}
-use Rattle.summary.specs.Summary.{summary_of}
 use Rattle.summary.specs.Report.{delivered}
 use Rattle.summary.specs.Export.{exported_of}
 use Rattle.summary.proofs.Exactly.{row_fits}
@@ -25,8 +22,8 @@ pub returns-else-is_counts : goal.returns-else-is_counts
 unfolding exported_of
 returns-else-is_counts c = sym (rw (sym c.is_counts.ensures ∙ c.if-is_counts.false))
 
-pub put_row-requires-clause-summary_value : goal.put_row-requires-clause-summary_value
-put_row-requires-clause-summary_value c =
+pub put_row-requires-clause-own : goal.put_row-requires-clause-own
+put_row-requires-clause-own c =
     let a = c.args in
     let f : T (fits binary64 a.summary.mean) = search rules in
     let g : T (fits binary64 a.summary.missing) = search rules in

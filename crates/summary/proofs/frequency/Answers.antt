@@ -1,6 +1,5 @@
 use Rattle.band.specs.Band.{ToldNumber}
 use mathlib.Core.Path.{ap}
-use borrow.Author.Rules.{rules}
 use Rattle.summary.proofs.frequency.Goals as goal
 
 pub returns : goal.returns

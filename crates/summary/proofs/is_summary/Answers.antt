@@ -1,6 +1,5 @@
 use Rattle.summary.proofs.Same.{mean_given, missing_given}
 use Rattle.summary.specs.Export.{is_summary}
-use borrow.Author.Rules.{rules}
 use Rattle.summary.proofs.is_summary.Goals as goal
 
 pub same_bits-requires : goal.same_bits-requires

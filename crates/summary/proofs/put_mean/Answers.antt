@@ -1,7 +1,6 @@
 use Rattle.summary.proofs.Texts.{grows_then}
 use Rattle.summary.specs.Report.{line, thousandths}
 use borrow.Author.Tests.{eq-eqb, ne_eqb}
-use borrow.Author.Rules.{rules}
 use Rattle.summary.proofs.put_mean.Goals as goal
 
 pub returns : goal.returns

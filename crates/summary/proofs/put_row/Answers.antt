@@ -6,7 +6,6 @@ use Rattle.summary.specs.Report.{ended}
 use Rattle.summary.specs.Export.{sheet_row}
 use Rattle.summary.proofs.Same.{mean_given, missing_given}
 use Rattle.summary.proofs.Texts.{grows_same, grows_then}
-use borrow.Author.Rules.{rules}
 use Rattle.summary.proofs.put_row.Goals as goal
 
 pub returns : goal.returns
@@ -24,7 +23,7 @@ returns c =
     (grows_then (grows_then c.put_cell.ensures c.put_byte-mean.ensures) (grows_then c.put_cell-2.ensures c.put_byte.ensures))))))))))
 
 pub put_cell-requires : goal.put_cell-requires
-put_cell-requires c = mean_given c.args.summary c.args.counts c.requires.summary_value c.requires.counts_value
+put_cell-requires c = mean_given c.args.summary c.args.counts c.requires.own c.requires.counted
 
 pub put_cell-requires-2 : goal.put_cell-requires-2
-put_cell-requires-2 c = missing_given c.args.summary c.args.counts c.requires.summary_value c.requires.counts_value
+put_cell-requires-2 c = missing_given c.args.summary c.args.counts c.requires.own c.requires.counted

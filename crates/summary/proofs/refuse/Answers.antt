@@ -8,7 +8,6 @@ use Rattle.logs.specs.Decimal.{decimal}
 use Rattle.summary.specs.Report.{ended, delivered, refusal_line}
 use Rattle.summary.proofs.Fits.{refusal_fits}
 use Rattle.summary.proofs.Texts.{grows_whole, grows_then, grows_same}
-use borrow.Author.Rules.{rules}
 use Rattle.summary.proofs.refuse.Goals as goal
 
 pub returns : goal.returns

@@ -1,5 +1,4 @@
 use borrow.Author.Tests.{eq-eqb, ne_eqb}
-use borrow.Author.Rules.{rules}
 use Rattle.summary.proofs.share.Goals as goal
 
 pub returns-then-whole-eq0 : goal.returns-then-whole-eq0

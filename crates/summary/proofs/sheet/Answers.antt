@@ -6,7 +6,6 @@ use Rattle.summary.specs.Report.{delivered}
 use Rattle.summary.specs.Export.{sheet_row, sheet_names, sheet_of}
 use Rattle.summary.proofs.Exactly.{sheet_fits}
 use Rattle.summary.proofs.Texts.{grows_whole, grows_then, grows_same}
-use borrow.Author.Rules.{rules}
 use Rattle.summary.proofs.sheet.Goals as goal
 
 pub returns : goal.returns

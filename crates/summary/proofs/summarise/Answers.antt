@@ -1,6 +1,5 @@
 use Rattle.summary.specs.Summary.{summarised_of}
 use mathlib.Core.Path.{sym, ◌∙◌}
-use borrow.Author.Rules.{rules}
 use Rattle.summary.proofs.summarise.Goals as goal
 
 pub returns-then-is_counts : goal.returns-then-is_counts

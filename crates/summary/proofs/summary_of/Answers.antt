@@ -1,5 +1,4 @@
 use Rattle.summary.specs.Summary.{summary_of}
-use borrow.Author.Rules.{rules}
 use Rattle.summary.proofs.summary_of.Goals as goal
 
 pub returns : goal.returns

@@ -1,5 +1,4 @@
 use Rattle.summary.specs.Export.{cell}
-use borrow.Author.Rules.{rules}
 use Rattle.summary.proofs.binary.put_cell.Goals as goal
 
 pub returns-then-exists : goal.returns-then-exists

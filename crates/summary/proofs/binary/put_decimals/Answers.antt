@@ -1,44 +1,18 @@
 use Rattle.summary.proofs.Limbs.{decimals_more, decimals_end, decimals_out, grown_fits}
 use Rattle.summary.proofs.Texts.{content_fits, grows_same, grows_then}
-use Rattle.summary.specs.Building.{room, content, Grows}
-use Rattle.summary.specs.Export.{decimals}
-use Rattle.summary.specs.declared.building.Text.{Text}
+use Rattle.summary.specs.Building.{room}
 use lib.ListN.{length}
 use borrow.Author.Rules.{rules}
 use native.Mathlib.Omega.{arith}
-use Prim.Native.Nat.{◌+◌, ◌*◌, ◌^◌, ◌<◌, ◌≤◌}
+use Prim.Native.Nat.{◌+◌, ◌*◌, ◌^◌}
 use mathlib.Core.Path.{◌≡◌}
 use Rattle.summary.proofs.binary.put_decimals.Goals as goal
 
 pub loop-more-init : goal.loop-more-init
 loop-more-init c = let f : length c.args.text.bytes ≡ room = search rules in (c.requires.0, c.requires.1, content_fits c.args.text f, λ v g. g)
 
-pub overflow_add-above : goal.overflow_add-above
-overflow_add-above c = omega arith
-
 pub returns-then-above-below-eq0 : goal.returns-then-above-below-eq0
 returns-then-above-below-eq0 c = let p = c.loop-more in p.invariant.3 _ (decimals_end p.so_far p.more p.above p.below p.invariant.2 c.if-above-below-eq0.true)
-
-pub overflow_mul-ten : goal.overflow_mul-ten
-overflow_mul-ten c = omega arith
-
-pub overflow_mul-carried : goal.overflow_mul-carried
-overflow_mul-carried c = omega arith
-
-pub overflow_add-carried : goal.overflow_add-carried
-overflow_add-carried c = omega arith
-
-pub overflow_cast-carried : goal.overflow_cast-carried
-overflow_cast-carried c = omega arith
-
-pub overflow_add-carried-in-loop-more : goal.overflow_add-carried-in-loop-more
-overflow_add-carried-in-loop-more c = omega arith
-
-pub overflow_sub-more : goal.overflow_sub-more
-overflow_sub-more c = omega arith
-
-pub loop-more-smaller : goal.loop-more-smaller
-loop-more-smaller c = omega arith
 
 pub loop-more-preserved : goal.loop-more-preserved
 loop-more-preserved c =

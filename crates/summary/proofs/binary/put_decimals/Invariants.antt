@@ -1,13 +1,8 @@
-use Rattle.summary.proofs.Limbs.{decimals_more, decimals_end, decimals_out, grown_fits}
-use Rattle.summary.proofs.Texts.{content_fits, grows_same, grows_then}
 use Rattle.summary.specs.Building.{room, content, Grows}
 use Rattle.summary.specs.Export.{decimals}
 use Rattle.summary.specs.declared.building.Text.{Text}
 use lib.ListN.{length}
-use borrow.Author.Rules.{rules}
-use native.Mathlib.Omega.{arith}
 use Prim.Native.Nat.{◌+◌, ◌*◌, ◌^◌, ◌<◌, ◌≤◌}
-use mathlib.Core.Path.{◌≡◌}
 use Rattle.summary.proofs.binary.put_decimals.Given as goal
 
 abbrev pub invariant-loop-more : goal.invariant-loop-more

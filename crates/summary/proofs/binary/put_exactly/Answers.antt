@@ -6,7 +6,6 @@ use Rattle.summary.specs.Export.{expansion}
 use lib.Ieee.{binary64, to_bits}
 use Prim.Native.Nat.{ℕ, ◌^◌}
 use mathlib.Core.Path.{◌∙◌, ap}
-use borrow.Author.Rules.{rules}
 use Rattle.summary.proofs.binary.put_exactly.Goals as goal
 
 pub float_to_bits-bits : goal.float_to_bits-bits

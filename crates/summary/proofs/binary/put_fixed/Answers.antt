@@ -1,6 +1,5 @@
 use Rattle.summary.proofs.Limbs.{expansion_whole, expansion_parts}
 use Rattle.summary.proofs.Texts.{grows_same, grows_then}
-use borrow.Author.Rules.{rules}
 use Rattle.summary.proofs.binary.put_fixed.Goals as goal
 
 pub returns-then-high-low-eq0 : goal.returns-then-high-low-eq0

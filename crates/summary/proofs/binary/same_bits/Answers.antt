@@ -1,6 +1,5 @@
 use Rattle.summary.proofs.Same.{ne_nan, eq_number, measured_number, nan_bits}
 use mathlib.Core.Path.{sym}
-use borrow.Author.Rules.{rules}
 use Rattle.summary.proofs.binary.same_bits.Goals as goal
 
 pub float_to_bits-result : goal.float_to_bits-result

@@ -2,7 +2,6 @@ use Rattle.summary.proofs.Limbs.{bounds, factor_is, limb_value}
 use native.Mathlib.Omega.{arith}
 use Prim.Native.Nat.{ℕ, ◌*◌}
 use mathlib.Core.Path.{◌∙◌, ap}
-use borrow.Author.Rules.{rules}
 use Rattle.summary.proofs.binary.scale.Goals as goal
 
 pub overflow_mul-low : goal.overflow_mul-low

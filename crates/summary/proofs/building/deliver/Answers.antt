@@ -1,15 +1,9 @@
-use Rattle.summary.specs.Report.{told_text}
-use Rattle.answers.specs.Numbers.{accepted}
-use Rattle.answers.specs.declared.Answer.TheVariants.{Accepted}
-use lib.ListN.{take, drop, length, length-take}
-use lib.Seq.{length-take-le, take_all}
-use mathlib.Core.List.{List, ◌++◌}
-use Prim.Native.Nat.{ℕ}
+use lib.ListN.{length}
 use Rattle.summary.proofs.Texts.{content_least}
 use Rattle.summary.specs.Building.{room, content}
 use native.Mathlib.Omega.{arith}
-use borrow.Author.Tests.{lt-leb, le-leb}
-use mathlib.Core.Path.{◌≡◌, ◌∙◌, sym, ap}
+use borrow.Author.Tests.{lt-leb}
+use mathlib.Core.Path.{◌≡◌, sym}
 use borrow.Author.Rules.{rules}
 use Rattle.summary.proofs.building.deliver.Goals as goal
 

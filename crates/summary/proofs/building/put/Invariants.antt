@@ -1,10 +1,6 @@
-use Rattle.summary.proofs.Texts.{grows_none, grows_next, grows_all}
-use Rattle.summary.specs.Building.{room, Grows}
+use Rattle.summary.specs.Building.{Grows}
 use lib.ListN.{length, take}
-use borrow.Author.Rules.{rules}
-use native.Mathlib.Omega.{arith}
 use Prim.Native.Nat.{◌≤◌, ◌-◌}
-use mathlib.Core.Path.{◌≡◌}
 use Rattle.summary.proofs.building.put.Given as goal
 
 abbrev pub invariant-loop-i : goal.invariant-loop-i

@@ -1,5 +1,4 @@
 use Rattle.summary.proofs.Texts.{grows_then}
-use borrow.Author.Rules.{rules}
 use Rattle.summary.proofs.building.put_field.Goals as goal
 
 pub returns : goal.returns

@@ -1,6 +1,5 @@
 use Rattle.summary.proofs.Texts.{grows_then}
 use Rattle.summary.specs.Report.{line}
-use borrow.Author.Rules.{rules}
 use Rattle.summary.proofs.building.put_line.Goals as goal
 
 pub returns : goal.returns
