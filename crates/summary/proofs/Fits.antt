@@ -9,7 +9,6 @@ use Rattle.logs.specs.declared.Counts.{Counts}
 use Rattle.logs.specs.Decimal.{decimal}
 use Rattle.logs.proofs.Decimal.{decimal_length}
 use Rattle.logs.proofs.Lists.{cond_with}
-use Rattle.summary.specs.Building.{room}
 use Rattle.summary.specs.Report.{ended, line, frequency, thousandths, report_of, refusal_line}
 
 -- a text of at most n bytes

@@ -214,8 +214,8 @@ fn is_summary(given: Summary, counts: Counts) -> bool
 }
 
 fn put_row(text: Text, counts: Counts, summary: Summary) -> Text
-    requires counts_value { is_counts counts ≡ true }
-    requires summary_value { summary ≡ summary_of counts }
+    requires counted { is_counts counts ≡ true }
+    requires own { summary ≡ summary_of counts }
     ensures { Grows text (sheet_row counts summary) result }
 {
     let channel = building::put_field(text, counts.channel as u32, b'\t');
