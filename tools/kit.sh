@@ -12,7 +12,7 @@ folder_of() { # FILE
     (CDPATH='' cd -- "$(dirname -- "$path")" && pwd -P)
 }
 
-# The kit's part for this machine: where RATTLE_HOME says, or else where the command rt stands.
+# The kit: where RATTLE_HOME says, or else where the command rt stands.
 kit_on_machine() {
     if [ -n "${RATTLE_HOME:-}" ]; then
         home=$RATTLE_HOME
@@ -22,7 +22,7 @@ kit_on_machine() {
         echo 'there is no rt on the PATH: install the Rattle kit, and put its bin folder there' >&2
         return 1
     fi
-    echo "$home/on/$machine"
+    echo "$home"
 }
 
 # Becomes a program that was compiled for x86-64: by itself there, and under the kit's emulator on another machine.
