@@ -10,22 +10,22 @@ use answers::{Answer, Refusal};
 pub const LAST_CHANNEL: u8 = 204;
 
 // A channel number, 1 to 204; 0 and 205 to 255 are reserved.
-#[derive(Drop)]
+#[derive(Clone, Copy)]
 pub struct Channel(pub u8);
 
 // A frequency in kilohertz.
-#[derive(Drop)]
+#[derive(Clone, Copy)]
 pub struct Kilohertz(pub u32);
 
 // A channel, or a refusal with channel 0.
-#[derive(Drop)]
+#[derive(Clone, Copy)]
 pub struct ChannelAnswer {
     pub answer: Answer,
     pub channel: Channel,
 }
 
 // A frequency, or a refusal with 0 kHz.
-#[derive(Drop)]
+#[derive(Clone, Copy)]
 pub struct KilohertzAnswer {
     pub answer: Answer,
     pub kilohertz: Kilohertz,

@@ -23,7 +23,7 @@ const BLOCK_BITS: usize = 272;
 
 // What the corrector and the block reader answer: `changed` is the row of the places in which the code word differs from
 // what was received, and the count is the number of its ones.
-#[derive(Drop)]
+#[derive(Clone, Copy)]
 pub struct Corrected {
     pub answer: Answer,
     pub count: u8,

@@ -16,7 +16,7 @@ pub const FRAME_BYTES: usize = 9248;
 const ROWS: usize = 272;
 
 // What the frame corrector answers, and how many rows and how many columns were refused.
-#[derive(Drop)]
+#[derive(Clone, Copy)]
 pub struct CorrectedFrame {
     pub answer: Answer,
     pub refused_rows: u16,

@@ -6,22 +6,22 @@ ghost use Rattle.logs.specs.Pieces.{Reached};
 ghost use Rattle.intake.specs.Intake.{Came};
 
 use logs::{LogRead, Reader};
-use std::io;
-use std::io::Read;
+use std::io::{ErrorKind, Read};
 
-// What came, read as a log, and why reading failed, where it did before the end.
-#[derive(Drop)]
+// What came, read as a log, whether reading failed before its end, and why, where it did.
+#[derive(Clone, Copy)]
 pub struct Intake {
     pub log: LogRead,
-    pub failed: Option<io::Error>,
+    pub failed: bool,
+    pub cause: Option<ErrorKind>,
 }
 
 // A reader after what came so far, whether more may come, and why reading failed, where it did.
-#[derive(Drop)]
+#[derive(Clone, Copy)]
 struct Taken {
     pub reader: Reader,
     pub more: bool,
-    pub failed: Option<io::Error>,
+    pub cause: Option<ErrorKind>,
 }
 
 // Reads a log on standard input to its end, in pieces of the room that is lent; of a room without bytes nothing comes. Where reading
@@ -42,7 +42,8 @@ pub fn read_log<R: Input>(rt: &R, room: &mut [u8]) -> Intake
             line: end.line,
             counts,
         },
-        failed: taken.failed,
+        failed: taken.cause.is_some(),
+        cause: taken.cause,
     }
 }
 
@@ -53,7 +54,7 @@ fn read_all<I: Read>(input: &mut I, room: &mut [u8]) -> Taken
     let mut taken = Taken {
         reader: logs::start(),
         more: true,
-        failed: None,
+        cause: None,
     };
     let mut turns = u64::MAX;
     while turns > 0 {
@@ -75,7 +76,7 @@ fn read_some<I: Read>(input: &mut I, reader: Reader, room: &mut [u8]) -> Taken
     match input.read(room) {
         Ok(0) => ended(reader, None),
         Ok(count) => take_piece(reader, &room[..count]),
-        Err(error) => ended(reader, Some(error)),
+        Err(error) => ended(reader, Some(error.kind())),
     }
 }
 
@@ -87,17 +88,17 @@ fn take_piece(reader: Reader, piece: &[u8]) -> Taken
     Taken {
         reader: fed.reader,
         more: true,
-        failed: None,
+        cause: None,
     }
 }
 
-fn ended(reader: Reader, failed: Option<io::Error>) -> Taken
+fn ended(reader: Reader, cause: Option<ErrorKind>) -> Taken
     requires { Reached reader }
     ensures { Reached result.reader }
 {
     Taken {
         reader,
         more: false,
-        failed,
+        cause,
     }
 }

@@ -31,7 +31,7 @@ pub struct Counts {
 }
 
 // What a whole log gives: the number of the refused line, 0 where there is none, and the counts of the lines before it.
-#[derive(Drop)]
+#[derive(Clone, Copy)]
 pub struct LogRead {
     pub answer: Answer,
     pub line: u32,
@@ -58,7 +58,7 @@ pub struct Reader {
 }
 
 // What a piece of a log gives, or its end: the number of the refused line or 0, and the next state, which has the counts.
-#[derive(Drop)]
+#[derive(Clone, Copy)]
 pub struct Fed {
     pub answer: Answer,
     pub line: u32,
@@ -66,7 +66,7 @@ pub struct Fed {
 }
 
 // Whether a line was good, and the counts after it.
-#[derive(Drop)]
+#[derive(Clone, Copy)]
 struct Judged {
     pub good: bool,
     pub counts: Counts,

@@ -11,7 +11,7 @@ ghost use Rattle.logs.specs.Reader.{run as Reader·run};
 use crate::{Counts, LONGEST_LINE, Phase, Reader, count, line, slot};
 
 // The reader after a part of a piece, and where the rest starts.
-#[derive(Drop)]
+#[derive(Clone, Copy)]
 struct Turn {
     reader: Reader,
     at: usize,

@@ -14,7 +14,7 @@ const MOST_DIGITS: usize = 6;
 const LONGEST_SLOT: usize = 9;
 
 // A number, and where its digits end.
-#[derive(Drop)]
+#[derive(Clone, Copy)]
 struct Numeral {
     pub number: u32,
     pub end: usize,

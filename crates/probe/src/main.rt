@@ -21,7 +21,7 @@ use std::io::Read;
 const LINE_FEED: u8 = 10;
 
 // How many bytes are held of the line that is being read, and whether answers can be written.
-#[derive(Drop)]
+#[derive(Clone, Copy)]
 struct Held {
     length: usize,
     writable: bool,

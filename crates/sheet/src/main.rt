@@ -5,8 +5,8 @@
 fn main(rt: HostRuntime) {
     let mut room = io::large_buffer();
     let intake = intake::read_log(&rt, &mut room);
-    if let Some(error) = intake.failed {
-        let _ = eprintln!(rt; "sheet: standard input: {error}");
+    if let Some(cause) = intake.cause {
+        let _ = eprintln!(rt; "sheet: standard input: {cause}");
         return;
     }
     let written = summary::export_log(intake.log, &mut room);

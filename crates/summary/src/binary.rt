@@ -19,7 +19,7 @@ const SIGN: u64 = 9223372036854775808;
 const MOST_DECIMALS: u32 = 1074;
 
 // high * 2^36 + low times 2^-72.
-#[derive(Drop)]
+#[derive(Clone, Copy)]
 pub struct Fixed {
     high: u64,
     low: u64,

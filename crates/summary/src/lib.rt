@@ -31,14 +31,14 @@ pub struct Summary {
     pub missing: f64,
 }
 
-#[derive(Drop)]
+#[derive(Clone, Copy)]
 pub struct Summarised {
     pub answer: Answer,
     pub summary: Summary,
 }
 
 // Whether a text was written, and its length.
-#[derive(Drop)]
+#[derive(Clone, Copy)]
 pub struct Written {
     pub answer: Answer,
     pub length: usize,

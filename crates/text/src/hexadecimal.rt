@@ -2,7 +2,7 @@
 ghost use Rattle.std.specs.Prelude.{◌≡◌, true, ◌++◌, ◌+◌, ◌*◌, ◌/◌, ◌%◌, ◌≤◌, ◌<◌, length, drop};
 ghost use Rattle.text.specs.Hexadecimal.{digit_of, hexadecimal, decoded, hex_digit, read_bytes_of, room_after, count_of};
 
-#[derive(Drop)]
+#[derive(Clone, Copy)]
 pub enum Bytes {
     Are(usize),
     Unreadable,

@@ -21,7 +21,7 @@ pub const BLOCK_WORDS: usize = 5;
 const WORD_BITS: usize = 64;
 
 // What was found for a row: with `near` a code word, the places in which it differs and how many they are; else all zero.
-#[derive(Drop)]
+#[derive(Clone, Copy)]
 pub struct Found {
     pub near: bool,
     pub word: [u64; BLOCK_WORDS],

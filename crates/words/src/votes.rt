@@ -15,7 +15,7 @@ const CIRCLE: usize = 273;
 const MOST_CORRECTED: usize = 8;
 
 // Which places the vote turns, and how many; without `few` they are more than eight, and are not told.
-#[derive(Drop)]
+#[derive(Clone, Copy)]
 pub struct Turned {
     pub few: bool,
     pub changed: [u64; BLOCK_WORDS],
@@ -23,7 +23,7 @@ pub struct Turned {
 }
 
 // 64 counts, each with its bit of one weight in one word.
-#[derive(Drop)]
+#[derive(Clone, Copy)]
 pub struct Planes {
     pub ones: u64,
     pub twos: u64,

@@ -6,6 +6,17 @@ use Rattle.text.proofs.Laws.{decoded_more, kept, decoded_all, a_digit}
 use Rattle.text.specs.Hexadecimal.{digit_of}
 use Rattle.text.proofs.hexadecimal.decode.Goals as goal
 
+pub loop-i-preserved : goal.loop-i-preserved
+loop-i-preserved c =
+    let i = c.loop-i.i in
+    let s = c.args.digits.now in
+    let value : c.value.result * 16 + c.value-in-loop-i.result ≡ digit_of (get_or s (2 * i) 0) * 16 + digit_of (get_or s (2 * i + 1) 0) = omega (arith, c.value.ensures, c.value-in-loop-i.ensures) in (
+      omega arith,
+      simp length-set c.loop-i.invariant.1,
+      decoded_more s c.loop-i.output i _ (omega arith) (omega arith) value c.loop-i.invariant.2,
+      kept c.loop-i.output c.args.output.now i _ c.loop-i.invariant.3,
+    )
+
 pub loop-i-init : goal.loop-i-init
 loop-i-init c = (omega arith, refl, refl, refl)
 
@@ -40,17 +51,6 @@ overflow_add-i-in-loop-i c = omega arith
 
 pub loop-i-smaller : goal.loop-i-smaller
 loop-i-smaller c = omega arith
-
-pub loop-i-preserved : goal.loop-i-preserved
-loop-i-preserved c =
-    let i = c.loop-i.i in
-    let s = c.args.digits.now in
-    let value : c.value.result * 16 + c.value-in-loop-i.result ≡ digit_of (get_or s (2 * i) 0) * 16 + digit_of (get_or s (2 * i + 1) 0) = omega (arith, c.value.ensures, c.value-in-loop-i.ensures) in (
-      omega arith,
-      simp length-set c.loop-i.invariant.1,
-      decoded_more s c.loop-i.output i _ (omega arith) (omega arith) value c.loop-i.invariant.2,
-      kept c.loop-i.output c.args.output.now i _ c.loop-i.invariant.3,
-    )
 
 pub shape_of-output : goal.shape_of-output
 shape_of-output c = c.loop-i.invariant.1
