@@ -9,19 +9,16 @@ fn main(rt: HostRuntime) -> io::Result<()> {
     received[0] = 0x88;
     let mut word = [0u8; 34];
     let corrected = block::correct(&received, &mut word);
-    put(
-        &rt,
-        "corrected bits",
-        corrected.answer,
-        u32::from(corrected.count),
-    )?;
+    let bits = u64::from(corrected.count);
+    put(&rt, "corrected bits", corrected.answer, bits)?;
 
     let read = logs::read(b"channel\t7\n1\t2\n2\t-\n");
-    put(&rt, "missing slots", read.answer, read.counts.missing)
+    let missing = u64::from(read.counts.missing);
+    put(&rt, "missing slots", read.answer, missing)
 }
 
 // Writes a number where it was accepted, and else the refusal's number in document 01.
-fn put(rt: &impl Print, name: &str, answer: Answer, number: u32) -> io::Result<()> {
+fn put(rt: &impl Print, name: &str, answer: Answer, number: u64) -> io::Result<()> {
     match answer {
         Answer::Accepted => println!(rt; "{name}: {number}"),
         Answer::Refused(refusal) => {
