@@ -25,17 +25,11 @@ kit_on_machine() {
     echo "$home"
 }
 
-# Becomes a program that was compiled for x86-64: by itself there, and under the kit's emulator on another machine.
+# Becomes a program that was compiled for x86-64.
 exec_program() { # FILE ARGUMENT ..
     if [ "$machine" = x86_64 ]; then exec "$@"; fi
-    kit=$(kit_on_machine) || exit 2
-    tools=$kit/toolchain
-    if [ ! -x "$tools/bin/qemu-x86_64" ]; then
-        echo "$1 runs on x86-64, and the Rattle kit has no emulator for this machine at $tools" >&2
-        exit 2
-    fi
-    for word in $(env | sed -n 's/^\(QEMU_[A-Za-z0-9_]*\)=.*/\1/p'); do unset "$word"; done
-    exec "$tools/bin/qemu-x86_64" "$tools/lib/ld-linux-x86-64.so.2" --library-path "$tools/lib" "$@"
+    echo "$1 runs on x86-64, and this machine is $machine" >&2
+    exit 2
 }
 
 run_program() { (exec_program "$@"); } # FILE ARGUMENT ..
