@@ -13,7 +13,7 @@ folder_of() { # FILE
 }
 
 # The kit: where RATTLE_HOME says, or else where the command rt stands.
-kit_on_machine() {
+kit_home() {
     if [ -n "${RATTLE_HOME:-}" ]; then
         home=$RATTLE_HOME
     elif command -v rt >/dev/null 2>&1; then

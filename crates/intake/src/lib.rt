@@ -8,7 +8,7 @@ ghost use Rattle.intake.specs.Intake.{Came};
 use logs::{LogRead, Reader};
 use std::io::{ErrorKind, Read};
 
-// What came, read as a log, whether reading failed before its end, and why, where it did.
+// What came, read as a log; whether reading failed before its end, and why, where it did.
 #[derive(Clone, Copy)]
 pub struct Intake {
     pub log: LogRead,
@@ -80,6 +80,7 @@ fn read_some<I: Read>(input: &mut I, reader: Reader, room: &mut [u8]) -> Taken
     }
 }
 
+// A function of its own, since the piece that is lent to it is known to be bytes.
 fn take_piece(reader: Reader, piece: &[u8]) -> Taken
     requires { Reached reader }
     ensures { Reached result.reader }
@@ -92,6 +93,7 @@ fn take_piece(reader: Reader, piece: &[u8]) -> Taken
     }
 }
 
+// Nothing more comes.
 fn ended(reader: Reader, cause: Option<ErrorKind>) -> Taken
     requires { Reached reader }
     ensures { Reached result.reader }

@@ -1,13 +1,13 @@
 -- Laws of bytes without a line feed. Assumes nothing.
 use Prim.Native.Nat.{ℕ, suc, ◌≤◌}
 use mathlib.Core.Path.{◌≡◌, refl, ap, sym, ◌∙◌, subst}
-use mathlib.Core.Bool.{Bool, true, false, not, ◌&&◌, false≢true, and-eq-true_iff}
+use mathlib.Core.Bool.{Bool, true, false, not, cond, ◌&&◌, false≢true, and-eq-true_iff}
 use mathlib.Core.List.{List, [], ◌∷◌, ◌++◌, append_assoc, append-nil}
 use lib.ListN.{length, get_or, take, drop}
 use lib.Seq.{length-take-le}
 use lib.Dec.{eqb, eqb-zero-suc, eqb-suc-suc}
 use borrow.Author.Tests.{ne_eqb, eqb-true, eqb-false}
-use Rattle.text.specs.Find.{index_of, index_after}
+use Rattle.text.specs.Find.{index_of}
 use Rattle.logs.specs.Reader.{is_plain}
 use Rattle.logs.proofs.Lists.{by_cases}
 
@@ -58,11 +58,11 @@ plain_cut (x ∷ a) (y ∷ b) c d p q e =
 
 -- a line feed is looked for, and none is found
 plain_found : (l : List ℕ) → is_plain l ≡ eqb (index_of 10 l) (length l)
-unfolding is_plain index_of index_after
+unfolding is_plain index_of
 plain_found [] = refl
 plain_found (x ∷ l) = go (eqb x 10) (plain_found l)
   where
-    go : (t : Bool) → is_plain l ≡ eqb (index_of 10 l) (length l) → (not t && is_plain l) ≡ eqb (index_after t (index_of 10 l)) (suc (length l))
+    go : (t : Bool) → is_plain l ≡ eqb (index_of 10 l) (length l) → (not t && is_plain l) ≡ eqb (cond t 0 (suc (index_of 10 l))) (suc (length l))
     go true e = sym (eqb-zero-suc (length l))
     go false e = e ∙ sym (eqb-suc-suc (index_of 10 l) (length l))
 

@@ -18,7 +18,7 @@ use lib.Ieee.Positive.{num, den, den_pos}
 use lib.Ieee.Scale.{round_same}
 use lib.ListN.{length}
 use borrow.Author.Tests.{eqb-true, eqb-false, ne_eqb, le-leb}
-use Rattle.text.specs.Find.{index_of, index_after}
+use Rattle.text.specs.Find.{index_of}
 use Rattle.answers.specs.Numbers.{accepted}
 use Rattle.answers.proofs.Determined.{refused_accepted}
 use Rattle.logs.specs.declared.Counts.{Counts}
@@ -126,11 +126,11 @@ not_point : (w : ℕ) → eqb (48 + w) 46 ≡ false
 not_point w = ne_eqb (48 + w) 46 (λ e. omega arith)
 
 parts_whole : (w : ℕ) → (whole_in ((48 + w) ∷ []) ≡ ((48 + w) ∷ [])) × (decimals_in ((48 + w) ∷ []) ≡ [])
-unfolding whole_in decimals_in index_of index_after
+unfolding whole_in decimals_in index_of
 parts_whole w = rw (not_point w) (refl, refl)
 
 parts_point : (w : ℕ) (l : List ℕ) → (whole_in ((48 + w) ∷ 46 ∷ l) ≡ ((48 + w) ∷ [])) × (decimals_in ((48 + w) ∷ 46 ∷ l) ≡ l)
-unfolding whole_in decimals_in index_of index_after
+unfolding whole_in decimals_in index_of
 parts_point w l = rw (not_point w) (refl, refl)
 
 whole_one : (w : ℕ) → w < 10 → is_whole ((48 + w) ∷ []) ≡ true

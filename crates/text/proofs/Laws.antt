@@ -12,7 +12,7 @@ use borrow.Author.Tests.{eqb-true, eq-eqb, ne_eqb, leb-true, ltb-true}
 use Rattle.std.specs.Prelude.{Option, None, Some}
 use Rattle.std.specs.Option.{unwrap_or}
 use Rattle.memchr.specs.Find.{IsFirstByte, is_byte}
-use Rattle.text.specs.Find.{index_of, index_after}
+use Rattle.text.specs.Find.{index_of}
 use Rattle.text.specs.Fields.{same_as, field_of}
 use Rattle.text.specs.Hexadecimal.{digit_of, hexadecimal, decoded}
 use Rattle.text.specs.declared.hexadecimal.Bytes.{Bytes}
@@ -87,14 +87,14 @@ tail s i = take_all (length s - i) (drop i s) (rw length-drop (omega arith))
 
 -- how many bytes stand before the first b, where it stands at a place and at none before it; and where it stands at none
 pub found_at : (b : ℕ) (s : List ℕ) (k : ℕ) → k < length s → get_or s k 0 ≡ b → ((j : ℕ) → j < k → get_or s j 0 ≡ b → ⊥) → index_of b s ≡ k
-unfolding index_of index_after
+unfolding index_of
 found_at b [] k l h none = absurd (omega arith)
 found_at b (x ∷ s) zero l h none = rw (eq-eqb x b h) refl
 found_at b (x ∷ s) (suc k) l h none =
     rw (ne_eqb x b (none 0 (omega arith))) (ap suc (found_at b s k (omega arith) h (λ j g. none (suc j) (omega arith))))
 
 pub found_nowhere : (b : ℕ) (s : List ℕ) → ((j : ℕ) → j < length s → get_or s j 0 ≡ b → ⊥) → index_of b s ≡ length s
-unfolding index_of index_after
+unfolding index_of
 found_nowhere b [] none = refl
 found_nowhere b (x ∷ s) none = rw (ne_eqb x b (none 0 (omega arith))) (ap suc (found_nowhere b s (λ j g. none (suc j) (omega arith))))
 
