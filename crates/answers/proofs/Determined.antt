@@ -6,8 +6,7 @@ use lib.ListN.{get_or}
 use native.Mathlib.Omega.{arith}
 use Rattle.answers.specs.declared.Refusal.{Refusal}
 use Rattle.answers.specs.declared.Refusal.TheVariants.{WrongLength, NoCodeWord, CheckBits, HeaderCheck, OtherChannel, HeaderForm, CountOrPadding, OutOfStep, TooMany, TooShort, OutsideRule, BadLine, NotThisGroup, TooLong}
-use Rattle.answers.specs.declared.Answer.{Answer}
-use Rattle.answers.specs.declared.Answer.TheVariants.{Accepted, Refused}
+use Rattle.std.specs.Prelude.{Result, Ok, Err}
 use Rattle.answers.specs.Numbers.{number_of, accepted, refused, paper}
 
 -- `number`
@@ -43,11 +42,11 @@ pub refusal_once : (a b : Refusal) → number_of a ≡ number_of b → a ≡ b
 refusal_once a b e = sym (undone a) ∙ ap refusal_of e ∙ undone b
 
 -- THE PAPER DETERMINES THE ANSWER
-pub paper_once : (a b : Answer) → paper a ≡ paper b → a ≡ b
-paper_once Accepted Accepted e = refl
-paper_once Accepted (Refused b) e = let z : ◌≡◌ {A = ℕ} 0 1 = cc in absurd (omega arith)
-paper_once (Refused a) Accepted e = let z : ◌≡◌ {A = ℕ} 0 1 = cc in absurd (omega arith)
-paper_once (Refused a) (Refused b) e = let n : number_of a ≡ number_of b = cc in ap Refused (refusal_once a b n)
+pub paper_once : (a b : Result Unit Refusal) → paper a ≡ paper b → a ≡ b
+paper_once (Ok a) (Ok b) e = refl
+paper_once (Ok a) (Err b) e = let z : ◌≡◌ {A = ℕ} 0 1 = cc in absurd (omega arith)
+paper_once (Err a) (Ok b) e = let z : ◌≡◌ {A = ℕ} 0 1 = cc in absurd (omega arith)
+paper_once (Err a) (Err b) e = let n : number_of a ≡ number_of b = cc in ap Err (refusal_once a b n)
 
 -- a refusal is no acceptance
 pub refused_accepted : (n : ℕ) → refused n ≡ accepted → ⊥

@@ -1,9 +1,7 @@
 -- Document 01, "Answer numbers": the number of each refusal, in the table's order. Assumes nothing.
-use Rattle.std.specs.Prelude.{ℕ}
+use Rattle.std.specs.Prelude.{ℕ, Result, Ok, Err}
 use Rattle.answers.specs.declared.Refusal.{Refusal}
 use Rattle.answers.specs.declared.Refusal.TheVariants.{WrongLength, NoCodeWord, CheckBits, HeaderCheck, OtherChannel, HeaderForm, CountOrPadding, OutOfStep, TooMany, TooShort, OutsideRule, BadLine, NotThisGroup, TooLong}
-use Rattle.answers.specs.declared.Answer.{Answer}
-use Rattle.answers.specs.declared.Answer.TheVariants.{Accepted, Refused}
 
 abbrev pub number_of : Refusal → ℕ
 -- a fixed length is wrong
@@ -40,6 +38,6 @@ pub data Paper : Type 0 where
   accepted : Paper
   refused : ℕ → Paper
 
-abbrev pub paper : Answer → Paper
-paper Accepted = accepted
-paper (Refused refusal) = refused (number_of refusal)
+abbrev pub paper : Result Unit Refusal → Paper
+paper (Ok done) = accepted
+paper (Err refusal) = refused (number_of refusal)

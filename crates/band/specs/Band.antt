@@ -1,22 +1,25 @@
 -- Document 01, "The log and its report": channel numbers and kilohertz (000, table 9). Assumes nothing.
-use Rattle.std.specs.Prelude.{ℕ, ◌+◌, ◌-◌, ◌*◌, ◌/◌, ◌%◌, Bool, ◌&&◌, leb, eqb}
-use Rattle.answers.specs.Numbers.{Paper, accepted, refused, paper}
+use Rattle.std.specs.Prelude.{ℕ, ◌+◌, ◌-◌, ◌*◌, ◌/◌, ◌%◌, Bool, ◌&&◌, leb, eqb, Result, Ok, Err}
+use Rattle.answers.specs.Numbers.{Paper, accepted, refused, number_of}
+use Rattle.answers.specs.declared.Refusal.{Refusal}
 use Rattle.answers.specs.Rules.{unless}
 use Rattle.band.specs.declared.Channel.{Channel}
 use Rattle.band.specs.declared.Kilohertz.{Kilohertz}
-use Rattle.band.specs.declared.ChannelAnswer.{ChannelAnswer}
-use Rattle.band.specs.declared.KilohertzAnswer.{KilohertzAnswer}
 
--- What is told of a channel or of a frequency: the paper's answer, and a number.
+-- What is told of a channel or of a frequency: the paper's answer, and a number, 0 where it was refused.
 pub record ToldNumber : Type 0 where
   pub answer : Paper
   pub number : ℕ
 
-abbrev pub told_channel : ChannelAnswer → ToldNumber
-told_channel r = record { answer = paper r.answer; number = r.channel.0 }
+abbrev pub told_number : {A : Type 0} → (A → ℕ) → Result A Refusal → ToldNumber
+told_number number (Ok made) = record { answer = accepted; number = number made }
+told_number number (Err refusal) = record { answer = refused (number_of refusal); number = 0 }
 
-abbrev pub told_kilohertz : KilohertzAnswer → ToldNumber
-told_kilohertz r = record { answer = paper r.answer; number = r.kilohertz.0 }
+abbrev pub told_channel : Result Channel Refusal → ToldNumber
+told_channel = told_number (λ c. c.0)
+
+abbrev pub told_kilohertz : Result Kilohertz Refusal → ToldNumber
+told_kilohertz = told_number (λ k. k.0)
 
 -- 11 and 0 where a test fails, else a number
 abbrev pub number_if : Bool → ℕ → ToldNumber

@@ -5,7 +5,7 @@
 ghost use Rattle.std.specs.Prelude.{◌≡◌};
 ghost use Rattle.band.specs.Band.{is_channel, is_frequency, numbered_of, kilohertz_of, channel_of, told_channel, told_kilohertz};
 
-use answers::{Answer, Refusal};
+use answers::Refusal;
 
 pub const LAST_CHANNEL: u8 = 204;
 
@@ -17,74 +17,62 @@ pub struct Channel(pub u8);
 #[derive(Clone, Copy)]
 pub struct Kilohertz(pub u32);
 
-// A channel, or a refusal with channel 0.
-#[derive(Clone, Copy)]
-pub struct ChannelAnswer {
-    pub answer: Answer,
-    pub channel: Channel,
-}
-
-// A frequency, or a refusal with 0 kHz.
-#[derive(Clone, Copy)]
-pub struct KilohertzAnswer {
-    pub answer: Answer,
-    pub kilohertz: Kilohertz,
-}
-
 // The channel of a number. Refused: 11 for a number that is reserved or greater than 255.
-pub fn numbered(number: u32) -> ChannelAnswer
-    ensures { told_channel result ≡ numbered_of number }
-{
-    if is_channel(number) {
-        return ChannelAnswer {
-            answer: Answer::Accepted,
-            channel: Channel(number as u8),
-        };
-    }
-    ChannelAnswer {
-        answer: Answer::Refused(Refusal::OutsideRule),
-        channel: Channel(0),
+impl TryFrom<u32> for Channel {
+    type Error = Refusal;
+
+    ghost try_from_gives = { λ number answer. told_channel answer ≡ numbered_of number };
+
+    fn try_from(number: u32) -> Result<Channel, Refusal> {
+        if is_channel(number) {
+            Ok(Channel(number as u8))
+        } else {
+            Err(Refusal::OutsideRule)
+        }
     }
 }
 
 // The frequency of a channel, 87,500 + 100 n kHz. Refused: 11 for a reserved number.
-pub fn to_kilohertz(channel: Channel) -> KilohertzAnswer
-    ensures { told_kilohertz result ≡ kilohertz_of channel }
-{
-    let number = channel.0 as u32;
-    if is_channel(number) {
-        return KilohertzAnswer {
-            answer: Answer::Accepted,
-            kilohertz: Kilohertz(87500 + 100 * number),
-        };
-    }
-    KilohertzAnswer {
-        answer: Answer::Refused(Refusal::OutsideRule),
-        kilohertz: Kilohertz(0),
+impl TryFrom<Channel> for Kilohertz {
+    type Error = Refusal;
+
+    ghost try_from_gives = { λ channel answer. told_kilohertz answer ≡ kilohertz_of channel };
+
+    fn try_from(channel: Channel) -> Result<Kilohertz, Refusal> {
+        let number = u32::from(channel.0);
+        if is_channel(number) {
+            Ok(Kilohertz(87500 + 100 * number))
+        } else {
+            Err(Refusal::OutsideRule)
+        }
     }
 }
 
 // The channel of a frequency. Refused: 11 for a frequency of no channel.
-pub fn to_channel(kilohertz: Kilohertz) -> ChannelAnswer
-    ensures { told_channel result ≡ channel_of kilohertz }
-{
-    let frequency = kilohertz.0;
-    if is_frequency(frequency) {
-        return numbered((frequency - 87500) / 100);
+impl TryFrom<Kilohertz> for Channel {
+    type Error = Refusal;
+
+    ghost try_from_gives = { λ kilohertz answer. told_channel answer ≡ channel_of kilohertz };
+
+    fn try_from(kilohertz: Kilohertz) -> Result<Channel, Refusal> {
+        let frequency = kilohertz.0;
+        if is_frequency(frequency) {
+            Ok(Channel(((frequency - 87500) / 100) as u8))
+        } else {
+            Err(Refusal::OutsideRule)
+        }
     }
-    // 0 is no channel, and refused with 11.
-    numbered(0)
 }
 
 // Whether this is a channel number, 1 to 204.
 pub fn is_channel(number: u32) -> bool
     ensures { result ≡ is_channel number }
 {
-    (1 <= number) & (number <= LAST_CHANNEL as u32)
+    (1..=u32::from(LAST_CHANNEL)).contains(&number)
 }
 
 fn is_frequency(frequency: u32) -> bool
     ensures { result ≡ is_frequency frequency }
 {
-    (87600 <= frequency) & (frequency <= 107900) & (frequency % 100 == 0)
+    (87600..=107900).contains(&frequency) && (frequency % 100 == 0)
 }

@@ -4,7 +4,7 @@
 // piece, as in f16.
 #![tactic(auto)]
 
-ghost use Rattle.std.specs.Prelude.{◌≡◌, ◌≤◌, length};
+ghost use Rattle.std.specs.Prelude.{◌≡◌, length};
 
 mod blocks;
 mod frames;
@@ -14,76 +14,67 @@ mod records;
 mod steps;
 
 use std::env::Env;
-use text::Number;
-
-// The descriptors of standard input and standard output.
-const STDIN: i32 = 0;
-
-const STDOUT: i32 = 1;
+use std::io::Read;
 
 // Room for whole records, whether they have 22, 34 or 264 bytes, and for 113 frames.
 const ROOM: usize = 1045704;
 
 fn main(rt: HostRuntime) {
-    let mut task = [0u8; 16];
-    let mut digits = [0u8; 16];
-    let mut input = room();
+    let mut task = [0; 16];
+    let mut digits = [0; 16];
+    let mut records = room();
     let mut written = room();
-    let task_length = argument(&rt, 1, &mut task);
-    let digits_length = argument(&rt, 2, &mut digits);
-    let count = count_of(&digits[..digits_length]);
-    let size = size_in(&task[..task_length]);
-    let length = io::read_full(STDIN, &mut input);
-    io::write_all(STDOUT, b"sum\t");
-    let sum = take(task[0], size, &input[..length], &mut written, count);
-    io::print_decimal(STDOUT, sum);
-    io::write_all(STDOUT, b"\n");
+    let size = match argument(&rt, 1, &mut task) {
+        Some([_, size @ ..]) => number(size),
+        _ => 0,
+    };
+    let count = argument(&rt, 2, &mut digits).map_or(0, number);
+    let input = read_into(&mut records, &mut rt.reader());
+    let sum = take(task[0], size, input, &mut written, count);
+    // bench/run sees that a sum is missing.
+    let _ = println!(rt; "sum\t{sum}");
 }
 
-// The contract gives the length alone: a proof that sees all of these bytes takes too long.
+// Reads to the end of the input or of the room. Where reading fails, what came until then is all.
+fn read_into<'a, R: Read>(room: &'a mut [u8], input: &mut R) -> &'a [u8] {
+    let mut length = 0;
+    for _ in 0..room.len() {
+        match input.read(&mut room[length..]) {
+            Ok(0) | Err(_) => break,
+            Ok(count) => length += count,
+        }
+    }
+    &room[..length]
+}
+
+// The contract gives the length alone: a proof that sees all of these bytes runs out of room. They stand on the stack, where a
+// compiler can tell the records from what is written of them, as in the programs in C.
 fn room() -> [u8; ROOM]
     ensures { 1045704 ≡ length result }
 {
-    [0u8; ROOM]
+    [0; ROOM]
 }
 
-// Puts an argument into a room, and answers how many bytes it has; 0 where there is none, or it doesn't fit.
-fn argument<R: Env>(rt: &R, index: usize, room: &mut [u8]) -> usize
-    ensures { result ≤ length room.new }
-{
-    match rt.arg(index, room) {
-        Ok(count) => count,
-        Err(_) => 0,
-    }
+// An argument. One that does not fit into its room is none, and leaves its first bytes there: so its letter tells a task.
+fn argument<'a, R: Env>(rt: &R, index: usize, room: &'a mut [u8]) -> Option<&'a [u8]> {
+    let length = rt.arg(index, room).ok()?;
+    Some(&room[..length])
 }
 
-fn count_of(digits: &[u8]) -> u32 {
-    let number = text::read_number(digits, u32::MAX);
-    match number {
-        Number::Is(count) => count,
-        Number::Unreadable => 0,
-    }
-}
-
-// The number behind the first letter, or 0.
-fn size_in(task: &[u8]) -> usize {
-    if task.len() == 0 {
-        return 0;
-    }
-    count_of(&task[1..]) as usize
+// 0 for what is no number.
+fn number(digits: &[u8]) -> usize {
+    text::read_number(digits, u32::MAX).map_or(0, |number| number as usize)
 }
 
 // `size` is that of a piece, and `written` is room for what comes of blocks and frames.
-fn take(task: u8, size: usize, input: &[u8], written: &mut [u8], count: u32) -> u64
-    requires { length input.now ≤ length written.old }
-{
+fn take(task: u8, size: usize, input: &[u8], written: &mut [u8], count: usize) -> u32 {
     match task {
-        b'c' => blocks::take(false, input, written, count),
-        b'r' => blocks::take(true, input, written, count),
+        b'c' => blocks::correct(input, written, count),
+        b'r' => blocks::read(input, written, count),
         b's' => steps::take(input, count),
         b'j' => messages::take(input, count),
         b'f' => pieces::take(size, input, count),
-        b'w' => frames::take(input, written, count),
+        b'w' => frames::correct(input, written, count),
         _ => 0,
     }
 }

@@ -3,54 +3,41 @@ use crate::records;
 use channel::{Channel, Header, INFORMATION_BYTES, Step};
 
 // The state stands here, so that nothing copies it but the function that is timed.
-pub(crate) fn take(input: &[u8], count: u32) -> u64 {
-    if input.len() < INFORMATION_BYTES {
-        return 0;
-    }
+pub(crate) fn take(input: &[u8], count: usize) -> u32 {
+    let (blocks, _) = input.as_chunks::<INFORMATION_BYTES>();
     let mut channel = Channel::new();
-    let mut sum: u64 = 0;
-    let mut at: usize = 0;
-    let mut left = count;
-    while left > 0 {
-        left -= 1;
-        let end = at + INFORMATION_BYTES;
-        let stepped = channel.step(&input[at..end]);
-        let answer = stepped.answer;
-        let next = stepped.channel;
-        channel = next;
-        sum = told(sum, answer);
-        at = records::next(end, INFORMATION_BYTES, input.len());
-    }
-    add_state(sum, channel)
+    let mut sum = 0;
+    records::each(blocks, count, |block| {
+        let stepped = channel.step(block);
+        channel = stepped.channel;
+        sum = match stepped.answer {
+            Ok(Step::Taken) => records::add(sum, 0),
+            Ok(Step::Message(header)) => add_header(sum, header),
+            Err(refusal) => records::add(sum, u64::from(u8::from(refusal))),
+        };
+    });
+    add_state(sum, &channel)
 }
 
-fn told(sum: u64, answer: Step) -> u64 {
-    match answer {
-        Step::Taken => records::add(sum, 0),
-        Step::Message(header) => add_header(sum, header),
-        Step::Refused(refusal) => records::add(sum, answers::number(refusal) as u64),
-    }
-}
-
-fn add_header(sum: u64, header: Header) -> u64 {
-    let numbers = records::add(
-        records::add(records::add(sum, header.ri as u64), header.ci as u64),
-        header.number as u64,
-    );
-    let lengths = records::add(
-        records::add(numbers, header.length as u64),
-        header.size as u64,
-    );
-    let ends = records::add_flag(records::add_flag(lengths, header.first), header.last);
-    records::add_flag(records::add_flag(ends, header.ext), header.command)
+fn add_header(sum: u32, header: Header) -> u32 {
+    records::add_all(
+        sum,
+        &[
+            u64::from(header.ri),
+            u64::from(header.ci),
+            u64::from(header.number),
+            header.length as u64,
+            header.size as u64,
+            u64::from(header.first),
+            u64::from(header.last),
+            u64::from(header.ext),
+            u64::from(header.command),
+        ],
+    )
 }
 
 // The phase follows from the answers.
-fn add_state(sum: u64, channel: Channel) -> u64 {
-    let bytes = channel.bytes;
-    let numbers = records::add(
-        records::add(sum, channel.gathered as u64),
-        channel.expected as u64,
-    );
-    records::add_bytes(numbers, &bytes)
+fn add_state(sum: u32, channel: &Channel) -> u32 {
+    let numbers = [channel.gathered as u64, u64::from(channel.expected)];
+    records::add_bytes(records::add_all(sum, &numbers), &channel.bytes)
 }

@@ -14,7 +14,10 @@ use Rattle.code.proofs.Computed.{generator_length}
 use Rattle.words.specs.Bytes.{row_of}
 use Rattle.block.specs.Blocks.{check_divisor, block_row}
 use Rattle.words.proofs.Bytes.{length_bits_of}
-use Rattle.block.proofs.Checks.{check_length}
+
+pub check_length : length check_divisor ≡ 14
+unfolding check_divisor
+check_length = refl
 
 pub length_systematic : (low info : List Bool) → length (systematic low info) ≡ length info + length low
 length_systematic low info = length-append info (check_of low info) ∙ ap (λ (n : ℕ). length info + n) (length_check low info)

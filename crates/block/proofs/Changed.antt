@@ -6,21 +6,21 @@ use mathlib.Core.Logic.{◌⊎◌, inl, inr, ⊎_elim}
 use Prim.Native.Nat.{ℕ, ◌≤◌, ◌<◌, ◌^◌}
 use native.Mathlib.Omega.{arith}
 use lib.ListN.{length, get_or, take}
-use Rattle.answers.specs.Numbers.{accepted, refused, paper}
+use Rattle.answers.specs.Numbers.{accepted, refused}
 use Rattle.answers.proofs.Determined.{refused_accepted}
 use Rattle.gf2.proofs.Remainders.{add_twice}
 use Rattle.code.specs.Code.{CodeWord, difference, ones, most_corrected}
-use Rattle.block.specs.declared.Corrected.{Corrected}
 use Rattle.words.specs.Bytes.{row_of}
 use Rattle.words.specs.Words.{FiveWords, row_of_words, zero_words}
 use Rattle.words.specs.Near.{Near}
+use Rattle.block.specs.Told.{ToldCorrected}
 use Rattle.block.specs.Corrector.{Corrects}
 use Rattle.block.specs.Blocks.{CheckRight, Reads}
 use Rattle.block.proofs.Determined.{block_once}
 use Rattle.words.proofs.Words.{zero_row, zero_five, top_small}
 
 -- every outcome of the two
-module _ (received before after : List ℕ) (r : Corrected) where
+module _ (received before after : List ℕ) (r : ToldCorrected) where
   -- what it says of the changed places: there are none, or they are those of a code word
   either : Corrects received before after r ⊎ Reads received before after r → ((r.count ≡ 0) × (r.changed ≡ zero_words)) ⊎ ((word : List Bool) × Near (row_of received) word r.count r.changed)
   either (inl (inl u)) = inl (u.counts, u.places)
@@ -50,20 +50,20 @@ module _ (received before after : List ℕ) (r : Corrected) where
   turned_word : {word : List Bool} → Near (row_of received) word r.count r.changed → difference (row_of received) (row_of_words r.changed) ≡ word
   turned_word {word} n = ap (difference (row_of received)) n.places ∙ add_twice (row_of received) word
 
-  pub turned_output : Corrects received before after r → paper r.answer ≡ accepted → difference (row_of received) (row_of_words r.changed) ≡ row_of after
+  pub turned_output : Corrects received before after r → r.answer ≡ accepted → difference (row_of received) (row_of_words r.changed) ≡ row_of after
   turned_output (inl u) a = absurd (refused_accepted 1 (sym u.answers ∙ a))
   turned_output (inr (inl u)) a = absurd (refused_accepted 2 (sym u.answers ∙ a))
   turned_output (inr (inr u)) a = turned_word u.found ∙ sym u.written
 
   -- and of the block reader the word whose information it gives, or whose check bits are wrong
-  pub turned_information : Reads received before after r → paper r.answer ≡ accepted
+  pub turned_information : Reads received before after r → r.answer ≡ accepted
       → CodeWord (difference (row_of received) (row_of_words r.changed)) × (take 176 (difference (row_of received) (row_of_words r.changed)) ≡ row_of after)
   turned_information (inl u) a = absurd (refused_accepted 1 (sym u.answers ∙ a))
   turned_information (inr (inl u)) a = absurd (refused_accepted 2 (sym u.answers ∙ a))
   turned_information (inr (inr (inl u))) a = absurd (refused_accepted 3 (sym u.answers ∙ a))
   turned_information (inr (inr (inr u))) a = (subst CodeWord (sym (turned_word u.found)) u.found.code, ap (take 176) (turned_word u.found) ∙ sym u.given)
 
-  pub turned_refused : Reads received before after r → paper r.answer ≡ refused 3
+  pub turned_refused : Reads received before after r → r.answer ≡ refused 3
       → CodeWord (difference (row_of received) (row_of_words r.changed)) × (CheckRight (difference (row_of received) (row_of_words r.changed)) → ⊥)
   turned_refused (inl u) a = let e : refused 1 ≡ refused 3 = sym u.answers ∙ a in let n : ◌≡◌ {A = ℕ} 1 3 = cc in absurd (omega arith)
   turned_refused (inr (inl u)) a = let e : refused 2 ≡ refused 3 = sym u.answers ∙ a in let n : ◌≡◌ {A = ℕ} 2 3 = cc in absurd (omega arith)
@@ -71,7 +71,7 @@ module _ (received before after : List ℕ) (r : Corrected) where
   turned_refused (inr (inr (inr u))) a = absurd (refused_accepted 3 (sym a ∙ u.answers))
 
 -- THE BLOCK READER PASSES ON the corrector's count and row
-module _ (received room word place information : List ℕ) (r s : Corrected) (l : length room ≡ 34) (m : length place ≡ 22) where
+module _ (received room word place information : List ℕ) (r s : ToldCorrected) (l : length room ≡ 34) (m : length place ≡ 22) where
   pub passed_on : Corrects received room word r → Reads received place information s → (r.count ≡ s.count) × (r.changed ≡ s.changed)
   passed_on (inl u) (inl v) = (u.counts ∙ sym v.counts, u.places ∙ sym v.places)
   passed_on (inl u) (inr (inl v)) = absurd (u.wrong (record { input = v.sized.input; output = l }))

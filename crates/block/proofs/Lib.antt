@@ -1,6 +1,4 @@
-pub mod Checks
 pub mod Turns
-pub mod Lengths
 pub mod Blocks
 pub mod Linear
 pub mod Quotients

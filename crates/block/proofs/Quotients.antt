@@ -22,7 +22,7 @@ use Rattle.words.proofs.Shifts.{bit_of_shr, bit_of_mod}
 use Rattle.words.proofs.Words.{bit_in_lem, length_row, bit_row}
 use Rattle.block.specs.Blocks.{check_divisor, CheckRight}
 use Rattle.block.specs.Quotients.{spread, first_quotient, second_quotient, last_quotient}
-use Rattle.block.proofs.Checks.{check_length}
+use Rattle.block.proofs.Blocks.{check_length}
 use Rattle.block.proofs.Linear.{Linear, whole, down, low, up, plus, spread_linear, Brings, single_places}
 
 -- THE CHECK ON WORDS, from its last step to its first: a definition for each quotient, so that each is computed once

@@ -8,23 +8,23 @@ use native.Mathlib.Omega.{arith}
 use lib.ListN.{length, take, drop, replicate, take-append-drop}
 use lib.Pow.{are_bytes}
 use lib.Seq.{take-take, take_at, drop_at}
-use Rattle.answers.specs.declared.Answer.{Answer}
-use Rattle.answers.specs.Numbers.{accepted, paper}
+use Rattle.std.specs.Prelude.{Result}
+use Rattle.answers.specs.declared.Refusal.{Refusal}
+use Rattle.answers.specs.Numbers.{accepted}
 use Rattle.gf2.specs.Poly.{Multiple, check_of, systematic}
 use Rattle.gf2.proofs.Remainders.{add_self, systematic_multiple}
 use Rattle.code.specs.Code.{generator, CodeWord, difference, ones, distance, most_corrected}
 use Rattle.code.proofs.Computed.{generator_length}
 use Rattle.code.proofs.Majority.{code_length, only_word}
-use Rattle.block.specs.declared.Corrected.{Corrected}
 use Rattle.words.specs.Bytes.{row_of}
 use Rattle.words.specs.Words.{row_of_words, zero_words}
 use Rattle.words.specs.Near.{Near}
+use Rattle.block.specs.Told.{ToldCorrected}
 use Rattle.block.specs.Corrector.{Word}
 use Rattle.block.specs.Blocks.{check_divisor, CheckRight, block_row, Information, Reads, Block}
 use Rattle.words.proofs.Bytes.{length_bits_of, row_once}
 use Rattle.words.proofs.Words.{words_once, zero_five, zero_row}
-use Rattle.block.proofs.Checks.{check_length}
-use Rattle.block.proofs.Blocks.{length_systematic, ending_tested}
+use Rattle.block.proofs.Blocks.{check_length, length_systematic, ending_tested}
 
 -- the row of a written block is a code word with right check bits, and begins with the information
 module _ (info : List Bool) (l : length info ≡ 176) where
@@ -55,9 +55,9 @@ block_again word w right =
     checked = sym (take-append-drop 176 (take 190 word)) ∙ (λ i. take-take 176 190 word (omega arith) i ++ right i)
 
 -- WITH AT MOST EIGHT PLACES CHANGED the reader gives the written information, the places and their number
-pub changed_reads : (information block received before after : List ℕ) (r : Corrected) → length information ≡ 22 → row_of block ≡ block_row (row_of information)
+pub changed_reads : (information block received before after : List ℕ) (r : ToldCorrected) → length information ≡ 22 → row_of block ≡ block_row (row_of information)
     → length received ≡ 34 → length before ≡ 22 → distance (row_of received) (row_of block) ≤ most_corrected → are_bytes information ≡ true → are_bytes after ≡ true
-    → Reads received before after r → (paper r.answer ≡ accepted) × (after ≡ information) × Near (row_of received) (row_of block) r.count r.changed
+    → Reads received before after r → (r.answer ≡ accepted) × (after ≡ information) × Near (row_of received) (row_of block) r.count r.changed
 changed_reads information block received before after r li written lr lb near bi ba = outcome
   where
     info_length : length (row_of information) ≡ 176
@@ -69,7 +69,7 @@ changed_reads information block received before after r li written lr lb near bi
     same : (word : List Bool) → Near (row_of received) word r.count r.changed → word ≡ row_of block
     same word n = only_word (row_of received) word (row_of block) (length_bits_of 8 received ∙ omega arith) n.code code n.near near
 
-    outcome : Reads received before after r → (paper r.answer ≡ accepted) × (after ≡ information) × Near (row_of received) (row_of block) r.count r.changed
+    outcome : Reads received before after r → (r.answer ≡ accepted) × (after ≡ information) × Near (row_of received) (row_of block) r.count r.changed
     outcome (inl o) = absurd (o.wrong (record { input = lr; output = lb }))
     outcome (inr (inl o)) = absurd (o.none (row_of block) code near)
     outcome (inr (inr (inl o))) =
@@ -82,9 +82,9 @@ changed_reads information block received before after r li written lr lb near bi
         )
 
 -- WHAT IS WRITTEN READS BACK, with 0 corrected and no place changed
-pub written_reads : (information room block before after : List ℕ) (made : Answer) (r : Corrected) → Block information room block made → length before ≡ 22
+pub written_reads : (information room block before after : List ℕ) (made : Result Unit Refusal) (r : ToldCorrected) → Block information room block made → length before ≡ 22
     → are_bytes information ≡ true → are_bytes after ≡ true → Reads block before after r
-    → (paper r.answer ≡ accepted) × (after ≡ information) × (r.count ≡ 0) × (r.changed ≡ zero_words)
+    → (r.answer ≡ accepted) × (after ≡ information) × (r.count ≡ 0) × (r.changed ≡ zero_words)
 written_reads information room block before after made r b lb bi ba o =
     let long : length (row_of block) ≡ 272 = length_bits_of 8 block ∙ omega (arith, b.long) in
     let same : difference (row_of block) (row_of block) ≡ row_of_words zero_words = add_self (row_of block) ∙ ap (λ (n : ℕ). replicate n false) long ∙ sym zero_row in
@@ -94,7 +94,7 @@ written_reads information room block before after made r b lb bi ba o =
     (read.0, read.1, read.2.counts ∙ ap ones (row ∙ zero_row), words_once r.changed zero_words read.2.words zero_five row)
 
 -- WHAT THE READER ACCEPTS, WRITTEN AGAIN, is the corrected code word
-pub read_again : (received before information room block out corrected : List ℕ) (read written : Corrected) (made : Answer) → Information received before information read
+pub read_again : (received before information room block out corrected : List ℕ) (read written : ToldCorrected) (made : Result Unit Refusal) → Information received before information read
     → Block information room block made → Word received out corrected written → are_bytes block ≡ true → are_bytes corrected ≡ true → block ≡ corrected
 read_again received before information room block out corrected read written made i w v bb bc =
     row_once block corrected bb bc (w.long ∙ sym v.long)

@@ -1,3 +1,4 @@
+pub mod Told
 pub mod Corrector
 pub mod Blocks
 pub mod Quotients

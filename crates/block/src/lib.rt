@@ -2,8 +2,7 @@
 #![tactic(auto)]
 
 ghost use Rattle.std.specs.Prelude.{◌≡◌};
-ghost use Rattle.answers.specs.Numbers.{refused, number_of, paper};
-ghost use Rattle.words.specs.Words.{zero_words};
+ghost use Rattle.block.specs.Told.{refusal_of, told_corrected, told_read};
 ghost use Rattle.block.specs.Corrector.{Corrects};
 ghost use Rattle.block.specs.Blocks.{Reads, Writes};
 
@@ -11,7 +10,8 @@ mod check;
 mod rows;
 
 pub use answers::INFORMATION_BYTES;
-use answers::{Answer, Refusal};
+use answers::Refusal;
+use words::Found;
 pub use words::{BLOCK_BYTES, BLOCK_WORDS};
 
 // Its information, with the check bits behind, with the parity behind both, in bits.
@@ -21,93 +21,91 @@ const CHECKED_BITS: usize = 190;
 
 const BLOCK_BITS: usize = 272;
 
-// What the corrector and the block reader answer: `changed` is the row of the places in which the code word differs from
-// what was received, and the count is the number of its ones.
+// The row of the places in which the code word differs from what was received, and how many they are.
 #[derive(Clone, Copy)]
 pub struct Corrected {
-    pub answer: Answer,
-    pub count: u8,
     pub changed: [u64; BLOCK_WORDS],
+    pub count: u8,
+}
+
+// Why the block reader gives no information. Where the check bits are wrong a code word was found, so its places are told.
+#[derive(Clone, Copy)]
+pub enum Unread {
+    WrongLength,
+    NoCodeWord,
+    CheckBits(Corrected),
+}
+
+impl From<Unread> for Refusal {
+    ghost from_gives = { λ unread refusal. refusal ≡ refusal_of unread };
+
+    fn from(unread: Unread) -> Refusal {
+        match unread {
+            Unread::WrongLength => Refusal::WrongLength,
+            Unread::NoCodeWord => Refusal::NoCodeWord,
+            Unread::CheckBits(_) => Refusal::CheckBits,
+        }
+    }
 }
 
 // Puts into `out` the code word that differs from the received bits in at most eight places.
-// Answers, in the order of their tests: 1, `received` or `out` has another length than 34; 2, there is no such code word.
-// A refusal leaves `out` as it was, and the count and the row are zero.
-pub fn correct(received: &[u8], out: &mut [u8]) -> Corrected
-    ensures { Corrects received.now out.old out.new result }
+// Refusals, in the order of their tests: 1, `received` or `out` has another length than 34; 2, there is no such code word.
+// A refusal leaves `out` as it was.
+pub fn correct(received: &[u8], out: &mut [u8]) -> Result<Corrected, Refusal>
+    ensures { Corrects received.now out.old out.new (told_corrected result) }
 {
-    if !((received.len() == BLOCK_BYTES) & (out.len() == BLOCK_BYTES)) {
-        return missed(Refusal::WrongLength);
+    if received.len() != BLOCK_BYTES || out.len() != BLOCK_BYTES {
+        return Err(Refusal::WrongLength);
     }
-    let found = words::search(words::of_bytes(received));
-    if !found.near {
-        return missed(Refusal::NoCodeWord);
-    }
-    let word = found.word;
-    let changed = found.changed;
-    words::fill_bytes(word, out);
-    Corrected {
-        answer: Answer::Accepted,
-        count: found.count,
+    let Some(found) = words::search(words::of_bytes(received)) else {
+        return Err(Refusal::NoCodeWord);
+    };
+    let Found {
+        word,
         changed,
-    }
+        count,
+    } = found;
+    words::fill_bytes(word, out);
+    Ok(Corrected { changed, count })
 }
 
 // Puts into `out` the 22 information bytes of the code word that differs from the received bits in at most eight places.
-// Answers, in the order of their tests: 1, `received` has another length than 34 or `out` than 22; 2, there is no such
-// code word; 3, its check bits are wrong. A refusal leaves `out` as it was; the count and the row are zero with 1 and 2.
-pub fn read_block(received: &[u8], out: &mut [u8]) -> Corrected
-    ensures { Reads received.now out.old out.new result }
+// Refusals, in the order of their tests: 1, `received` has another length than 34 or `out` than 22; 2, there is no such
+// code word; 3, its check bits are wrong. A refusal leaves `out` as it was.
+pub fn read_block(received: &[u8], out: &mut [u8]) -> Result<Corrected, Unread>
+    ensures { Reads received.now out.old out.new (told_read result) }
 {
-    if !((received.len() == BLOCK_BYTES) & (out.len() == INFORMATION_BYTES)) {
-        return missed(Refusal::WrongLength);
+    if received.len() != BLOCK_BYTES || out.len() != INFORMATION_BYTES {
+        return Err(Unread::WrongLength);
     }
-    let found = words::search(words::of_bytes(received));
-    if !found.near {
-        return missed(Refusal::NoCodeWord);
-    }
-    let word = found.word;
-    let changed = found.changed;
+    let Some(found) = words::search(words::of_bytes(received)) else {
+        return Err(Unread::NoCodeWord);
+    };
+    let Found {
+        word,
+        changed,
+        count,
+    } = found;
+    let corrected = Corrected { changed, count };
     if !check::holds(&word) {
-        return Corrected {
-            answer: Answer::Refused(Refusal::CheckBits),
-            count: found.count,
-            changed,
-        };
+        return Err(Unread::CheckBits(corrected));
     }
     words::fill_bytes(word, out);
-    Corrected {
-        answer: Answer::Accepted,
-        count: found.count,
-        changed,
-    }
+    Ok(corrected)
 }
 
 // Puts into `out` the block of 22 information bytes: information, check and parity in sending order.
-// Answer 1: `information` has another length than 22 or `out` than 34; `out` is as it was.
-pub fn write_block(information: &[u8], out: &mut [u8]) -> Answer
+// Refusal 1: `information` has another length than 22 or `out` than 34; `out` is as it was.
+pub fn write_block(information: &[u8], out: &mut [u8]) -> Result<(), Refusal>
     ensures { Writes information.now out.old out.new result }
 {
-    if !((information.len() == INFORMATION_BYTES) & (out.len() == BLOCK_BYTES)) {
-        return Answer::Refused(Refusal::WrongLength);
+    if information.len() != INFORMATION_BYTES || out.len() != BLOCK_BYTES {
+        return Err(Refusal::WrongLength);
     }
     let mut row = [false; BLOCK_BITS];
     rows::fill_row(information, &mut row);
-    let divisor = check::divisor();
-    let generator = code::generator_row();
-    let checked = check::append(row, INFORMATION_BITS, &divisor);
-    let word = check::append(checked, CHECKED_BITS, &generator);
-    rows::fill_bytes(&word, out);
-    Answer::Accepted
-}
-
-// Where no code word was found no place and no number is told.
-fn missed(refusal: Refusal) -> Corrected
-    ensures { (paper result.answer ≡ refused (number_of refusal)) × (result.count ≡ 0) × (result.changed ≡ zero_words) }
-{
-    Corrected {
-        answer: Answer::Refused(refusal),
-        count: 0,
-        changed: [0; BLOCK_WORDS],
-    }
+    check::append(&mut row, INFORMATION_BITS, &check::divisor());
+    check::append(&mut row, CHECKED_BITS, &code::generator_row());
+    rows::fill_bytes(&row, out);
+    Ok(())
 }

@@ -3,7 +3,8 @@ use Prim.Native.Nat.{ℕ}
 use mathlib.Core.Path.{◌≡◌, refl, sym, ap, ◌∙◌}
 use mathlib.Core.Bool.{Bool}
 use mathlib.Core.List.{List}
-use native.Mathlib.Omega.{arith}
+use Rattle.std.specs.Prelude.{Result, Ok, Err}
+use Rattle.answers.specs.declared.Refusal.{Refusal}
 use Rattle.answers.specs.Numbers.{number_of}
 use Rattle.answers.proofs.Determined.{refusal_once}
 use Rattle.channel.specs.Answers.{outcome, ChannelAfter, told_step}
@@ -11,23 +12,23 @@ use Rattle.channel.specs.Layer4.{size_of, blocks_for}
 use Rattle.channel.specs.State.{fresh, step_of}
 use Rattle.channel.specs.declared.Channel.{Channel}
 use Rattle.channel.specs.declared.Step.{Step}
-use Rattle.channel.specs.declared.Step.TheVariants.{Taken, Message, Refused}
+use Rattle.channel.specs.declared.Step.TheVariants.{Taken, Message}
 use Rattle.channel.specs.declared.Stepped.{Stepped}
 
 -- `Channel::new`
 pub new_once : (r s : Channel) → r ≡ fresh → s ≡ fresh → r ≡ s
 new_once r s p q = p ∙ sym q
 
-outcome_once : (a b : Step) → outcome a ≡ outcome b → a ≡ b
-outcome_once Taken Taken e = refl
-outcome_once Taken (Message h) e = let z : ◌≡◌ {A = ℕ} 0 1 = cc in absurd (omega arith)
-outcome_once Taken (Refused r) e = let z : ◌≡◌ {A = ℕ} 0 1 = cc in absurd (omega arith)
-outcome_once (Message h) Taken e = let z : ◌≡◌ {A = ℕ} 0 1 = cc in absurd (omega arith)
-outcome_once (Message h) (Message k) e = cc
-outcome_once (Message h) (Refused r) e = let z : ◌≡◌ {A = ℕ} 0 1 = cc in absurd (omega arith)
-outcome_once (Refused r) Taken e = let z : ◌≡◌ {A = ℕ} 0 1 = cc in absurd (omega arith)
-outcome_once (Refused r) (Message h) e = let z : ◌≡◌ {A = ℕ} 0 1 = cc in absurd (omega arith)
-outcome_once (Refused r) (Refused s) e = let n : number_of r ≡ number_of s = cc in ap Refused (refusal_once r s n)
+outcome_once : (a b : Result Step Refusal) → outcome a ≡ outcome b → a ≡ b
+outcome_once (Ok Taken) (Ok Taken) e = refl
+outcome_once (Ok Taken) (Ok (Message h)) e = cc
+outcome_once (Ok Taken) (Err r) e = cc
+outcome_once (Ok (Message h)) (Ok Taken) e = cc
+outcome_once (Ok (Message h)) (Ok (Message k)) e = cc
+outcome_once (Ok (Message h)) (Err r) e = cc
+outcome_once (Err r) (Ok Taken) e = cc
+outcome_once (Err r) (Ok (Message h)) e = cc
+outcome_once (Err r) (Err s) e = let n : number_of r ≡ number_of s = cc in ap Err (refusal_once r s n)
 
 -- `Channel::step`
 pub step_once : (c : Channel) (information : List ℕ) (r s : Stepped) → told_step r ≡ step_of c information → told_step s ≡ step_of c information → r ≡ s

@@ -58,13 +58,12 @@ unfolding opened
 rfa_place true h = refl
 rfa_place false h = rw mod-one
 
-module _ (ext : Bool) (h size rfa k : ℕ) (m : Header) (s : size ≡ size_of ext) (l : h < 2 ^ (8 * size)) (is : m ≡ (opened ext h).header)
+module _ (ext : Bool) (h rfa k : ℕ) (m : Header) (l : h < 2 ^ (8 * size_of ext)) (is : m ≡ (opened ext h).header)
     (r : rfa ≡ where_ext ext (h / 64 / 1024 % 8)) (e : k ≡ check 64 (h / 64)) where
   pub parted_opened : ◌≡◌ {A = Opened} (record { header = m; rfa = rfa; caf = eqb (h / 64 / 256 % 2) 1; checked = eqb k (h % 64) }) (opened ext h)
   unfolding opened
   parted_opened =
-      let small : h < 2 ^ (8 * size_of ext) = rw s at l in
-      let c = e ∙ check_over ext (h / 64) (fields_small ext h small) in
+      let c = e ∙ check_over ext (h / 64) (fields_small ext h l) in
       let z = r ∙ rfa_place ext h in
       λ i. record { header = is i; rfa = z i; caf = eqb (h / 64 / 256 % 2) 1; checked = eqb (c i) (h % 64) }
 

@@ -1,16 +1,10 @@
 -- Laws that several proofs of this crate cite. Assumes nothing.
 use Prim.Native.Nat.{ℕ, ◌+◌, ◌-◌, ◌%◌, ◌^◌, ◌≤◌, ◌<◌}
-use mathlib.Core.Path.{◌≡◌, sym, ap, ◌∙◌}
+use mathlib.Core.Path.{◌≡◌, ap, ◌∙◌}
 use mathlib.Core.Bool.{Bool, true, false, ◌&&◌, and-eq-true_iff}
-use mathlib.Core.List.{List, ◌++◌, append_assoc}
 use native.Mathlib.Omega.{arith}
 use borrow.Author.Tests.{eqb-true, leb-true}
-use borrow.Author.Rules.{part_to_end}
-use borrow.Rule.Slice.PartMut.{put_mid, post_of, Post-is}
 use lib.Dec.{eqb, leb}
-use lib.ListN.{length, take, drop}
-use lib.Seq.{paste, drop-drop, take-length}
-use Rattle.gf2.proofs.Lists.{tail_back}
 use Rattle.header.specs.Header.{check}
 use Rattle.header.proofs.Bits.{check_wider}
 use Rattle.channel.specs.Layer4.{size_of}
@@ -46,22 +40,3 @@ size_room false = omega arith
 -- the check over all 64 bits is that over a header's own
 pub check_at : (n x : ℕ) → n ≤ 64 → x < 2 ^ n → check 64 x ≡ check n x
 check_at n x h l = let e : 64 ≡ n + (64 - n) = omega arith in ap (λ (m : ℕ). check m x) e ∙ check_wider n (64 - n) x l
-
--- the part from a place on, lent to a copy and given back; n is the length of the whole
-pub copied : (buffer s filled : List ℕ) (at n : ℕ) → n ≡ length buffer → filled ≡ take (length s) s ++ drop (length s) (take (n - at) (drop at buffer))
-    → put_mid at (n - at) buffer filled ≡ paste buffer at s (length s)
-copied buffer s filled at n l e =
-    let k = length s in
-    let front : put_mid at (n - at) buffer filled ≡ take at buffer ++ filled = rw l (tail_back buffer filled at) in
-    let rest : drop k (take (n - at) (drop at buffer)) ≡ drop (at + k) buffer = rw l (ap (drop k) (part_to_end buffer at) ∙ drop-drop k at buffer) in
-    front
-    ∙ ap (λ (r : List ℕ). take at buffer ++ r) (e ∙ ap (λ (r : List ℕ). take k s ++ r) rest)
-    ∙ sym (append_assoc (take at buffer) (take k s) (drop (at + k) buffer))
-
--- the place that a part takes is overwritten with it
-pub copied_in : (buffer s filled : List ℕ) (at : ℕ) → filled ≡ s → put_mid at (at + length s - at) buffer filled ≡ paste buffer at s (length s)
-copied_in buffer s filled at e =
-    let k = length s in
-    let whole : filled ≡ take k s = e ∙ sym (take-length s) in
-    let rest : post_of at (at + k - at) buffer ≡ drop (at + k) buffer = Post-is at (at + k) buffer (omega arith) in
-    (λ i. take at buffer ++ (whole i ++ rest i)) ∙ sym (append_assoc (take at buffer) (take k s) (drop (at + k) buffer))

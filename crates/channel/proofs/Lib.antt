@@ -1,4 +1,5 @@
 pub mod Rows
+pub mod Order
 pub mod Laws
 pub mod Headers
 pub mod Messages

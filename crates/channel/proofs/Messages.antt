@@ -1,7 +1,7 @@
 -- What the gathered bytes are, test by test, on the header as it stands in them. Assumes nothing.
 use Prim.Native.Nat.{ℕ, ◌+◌, ◌*◌, ◌≤◌, ◌<◌}
-use mathlib.Core.Path.{◌≡◌, refl, sym, ap, ◌∙◌}
-use mathlib.Core.Bool.{Bool, true, false, not, ◌&&◌, ◌||◌}
+use mathlib.Core.Path.{◌≡◌, sym, ap, ◌∙◌}
+use mathlib.Core.Bool.{Bool, true, false, not, ◌&&◌}
 use mathlib.Core.List.{List}
 use borrow.Author.Tests.{le-leb, lt-leb}
 use lib.Dec.{eqb, leb}
@@ -13,13 +13,8 @@ use Rattle.channel.specs.Layer4.{right_form, blocks_for, is_padding, opened_at, 
 use Rattle.channel.specs.declared.layer4.Opened.{Opened}
 use Rattle.channel.proofs.Headers.{opened_at_room}
 
--- RFA is zero and the form is right, as the code has it
 abbrev pub formed : Opened → Bool
-formed o = eqb o.rfa 0 && (not o.header.ext || leb 512 o.header.number)
-
-form_of : (ext : Bool) (number : ℕ) → right_form ext number ≡ (not ext || leb 512 number)
-form_of true number = refl
-form_of false number = refl
+formed o = eqb o.rfa 0 && right_form o.header.ext o.header.number
 
 abbrev pub end_of : Opened → ℕ
 end_of o = o.header.size + o.header.length
@@ -39,7 +34,7 @@ module _ (bytes : List ℕ) (o : Opened) (is : o ≡ opened_at bytes) where
       ap (λ (p : Opened). tested p bytes) (sym is)
       ∙ ap (λ (t : Outcome). unless (not o.caf) (refused 6) (unless o.checked (refused 4) t))
       (unless_and (eqb o.rfa 0) (right_form o.header.ext o.header.number) (refused 6) _
-      ∙ (λ i. unless (eqb o.rfa 0 && form_of o.header.ext o.header.number i) (refused 6) (unless (leb (end_of o) 260) (refused 14) (last i))))
+      ∙ (λ i. unless (formed o) (refused 6) (unless (leb (end_of o) 260) (refused 14) (last i))))
 
   pub caf_set : o.caf ≡ true → refused 6 ≡ message_of bytes
   caf_set e = sym (in_five ∙ rw e)

@@ -1,8 +1,7 @@
 -- A header from its bytes: one turn of the loop over them. Assumes nothing.
-use Prim.Native.Nat.{ℕ, suc, ◌+◌, ◌-◌, ◌*◌, ◌^◌, ◌≤◌, ◌<◌}
-use mathlib.Core.Path.{◌≡◌, sym, ap, ◌∙◌}
+use Prim.Native.Nat.{ℕ, suc, ◌+◌, ◌-◌, ◌*◌, ◌^◌, ◌<◌}
+use mathlib.Core.Path.{◌≡◌, sym, ◌∙◌}
 use mathlib.Core.List.{List, ◌∷◌}
-use native.Mathlib.Nat.{pow-le-pow_right}
 use native.Mathlib.Omega.{arith}
 use lib.ListN.{length, get_or, drop, replicate}
 use lib.Pow.{pow-add}
@@ -12,9 +11,6 @@ use Rattle.header.specs.Header.{behind}
 next_power : (i : ℕ) → 2 ^ (8 * (i + 1)) ≡ 2 ^ (8 * i) * 256
 next_power i = let e : 8 * (i + 1) ≡ 8 * i + 8 = omega arith in rw e (pow-add 2 (8 * i) 8)
 
-pub room : (i : ℕ) → i ≤ 4 → 2 ^ (8 * i) ≤ 4294967296
-room i h = let l : 8 * i ≤ 32 = omega arith in pow-le-pow_right {n = 2} (omega arith) {i = 8 * i} {j = 32} l
-
 pub header_turn : (bytes : List ℕ) (whole h i : ℕ) → i < length bytes → get_or bytes i 0 < 256 → h < 2 ^ (8 * i)
     → behind h (replicate (length bytes - i) 8) (drop i bytes) ≡ whole
     → (h * 256 + get_or bytes i 0 < 2 ^ (8 * (i + 1))) × (behind (h * 256 + get_or bytes i 0) (replicate (length bytes - (i + 1)) 8) (drop (i + 1) bytes) ≡ whole)
@@ -22,8 +18,3 @@ header_turn bytes whole h i l s r inv =
     let left : length bytes - i ≡ suc (length bytes - (i + 1)) = omega arith in
     let here : drop i bytes ≡ get_or bytes i 0 ∷ drop (i + 1) bytes = drop_one bytes i 0 l in
     (omega (arith, next_power i), sym (λ t. behind h (replicate (left t) 8) (here t)) ∙ inv)
-
-pub header_end : (bytes : List ℕ) (whole h i : ℕ) → length bytes ≤ i → behind h (replicate (length bytes - i) 8) (drop i bytes) ≡ whole → h ≡ whole
-header_end bytes whole h i l inv =
-    let none : length bytes - i ≡ 0 = omega arith in
-    sym (ap (λ (n : ℕ). behind h (replicate n 8) (drop i bytes)) none) ∙ inv

@@ -1,21 +1,27 @@
 -- Document 01, "Answer numbers": what each answer of the channel is on the paper, and the state that it leaves. Assumes nothing.
-use Rattle.std.specs.Prelude.{ℕ}
+use Rattle.std.specs.Prelude.{ℕ, Result, Ok, Err}
 use Rattle.answers.specs.Numbers.{number_of}
+use Rattle.answers.specs.declared.Refusal.{Refusal}
 use Rattle.channel.specs.declared.Header.{Header}
 use Rattle.channel.specs.declared.Channel.{Channel}
 use Rattle.channel.specs.declared.Stepped.{Stepped}
 use Rattle.channel.specs.declared.Step.{Step}
-use Rattle.channel.specs.declared.Step.TheVariants.{Taken, Message, Refused}
+use Rattle.channel.specs.declared.Step.TheVariants.{Taken, Message}
 
 pub data Outcome : Type 0 where
   taken : Outcome
   message : Header → Outcome
   refused : ℕ → Outcome
 
-abbrev pub outcome : Step → Outcome
-outcome Taken = taken
-outcome (Message header) = message header
-outcome (Refused refusal) = refused (number_of refusal)
+abbrev pub outcome : Result Step Refusal → Outcome
+outcome (Ok Taken) = taken
+outcome (Ok (Message header)) = message header
+outcome (Err refusal) = refused (number_of refusal)
+
+-- what the gathered bytes are: a message, or why they are none
+abbrev pub message_or : Result Header Refusal → Outcome
+message_or (Ok header) = message header
+message_or (Err refusal) = refused (number_of refusal)
 
 -- an answer, and the channel that it leaves
 pub record ChannelAfter : Type 0 where

@@ -1,5 +1,6 @@
 -- Document 01, "Layer 4 header, 32 or 40 bits", and what the gathered bytes of a message are, test by test. Assumes nothing.
-use Rattle.std.specs.Prelude.{ℕ, ◌+◌, ◌*◌, ◌/◌, ◌%◌, Bool, true, not, cond, ◌&&◌, List, [], ◌∷◌, eqb, leb, length, get_or, take, drop}
+use Rattle.std.specs.Prelude.{ℕ, ◌+◌, ◌*◌, ◌/◌, ◌%◌, Bool, true, not, cond, List, [], ◌∷◌, eqb, leb, length, get_or, take, drop}
+use Rattle.std.specs.List.{list_all}
 use Rattle.answers.specs.Rules.{unless}
 use Rattle.header.specs.Header.{total, field, flag, holds, header_from}
 use Rattle.channel.specs.Answers.{Outcome, message, refused}
@@ -67,8 +68,7 @@ abbrev pub data_of : Header → List ℕ → List ℕ
 data_of m bytes = take m.length (drop m.size bytes)
 
 abbrev pub is_padding : List ℕ → Bool
-is_padding [] = true
-is_padding (b ∷ bytes) = eqb b 0 && is_padding bytes
+is_padding bytes = list_all (λ b. eqb b 0) bytes
 
 -- CAF set (6); header check (4); RFA, or the wrong EXT form (6); over 260 bytes (14); wrong block count (7); padding (7); else "message"
 unfoldable pub tested : Opened → List ℕ → Outcome

@@ -1,9 +1,9 @@
 // Layer 4: the header of a message, and the message's tests.
 ghost use Rattle.std.specs.Prelude.{◌&&◌, ◌≡◌, ◌*◌, ◌≤◌, ◌<◌, ◌^◌, eqb, length, drop};
-ghost use Rattle.channel.specs.Answers.{outcome};
-ghost use Rattle.channel.specs.Layer4.{where_ext, size_of, opened, opened_at, blocks_for, message_of, is_padding};
+ghost use Rattle.channel.specs.Answers.{message_or};
+ghost use Rattle.channel.specs.Layer4.{where_ext, size_of, opened, opened_at, right_form, blocks_for, message_of, is_padding};
 
-use crate::{DATA_IN_BLOCK, Header, MOST_GATHERED, Step};
+use crate::{DATA_IN_BLOCK, Header, MOST_GATHERED};
 use answers::Refusal;
 
 // A header as it stands in the bytes, before its tests.
@@ -15,32 +15,39 @@ pub struct Opened {
     pub checked: bool,
 }
 
+impl Opened {
+    // RFA is zero. A number below 512 is written without EXT, and a greater one needs it: without EXT there are nine bits.
+    fn is_formed(&self) -> bool
+        ensures { result ≡ (eqb self.now.rfa 0 && right_form self.now.header.ext self.now.header.number) }
+    {
+        self.rfa == 0 && (!self.header.ext || 512 <= self.header.number)
+    }
+}
+
 // What the gathered bytes are: the message, or why they are none.
-pub(crate) fn read(bytes: &[u8]) -> Step
+pub(crate) fn read(bytes: &[u8]) -> Result<Header, Refusal>
     requires { (20 ≤ length bytes.now) × (length bytes.now ≤ 260) }
-    ensures { outcome result ≡ message_of bytes.now }
+    ensures { message_or result ≡ message_of bytes.now }
 {
     let opened = header_at(bytes);
     if opened.caf {
-        return Step::Refused(Refusal::HeaderForm);
+        return Err(Refusal::HeaderForm);
     }
     if !opened.checked {
-        return Step::Refused(Refusal::HeaderCheck);
+        return Err(Refusal::HeaderCheck);
+    }
+    if !opened.is_formed() {
+        return Err(Refusal::HeaderForm);
     }
     let header = opened.header;
-    // RFA is zero. A number below 512 is written without EXT, and a greater one needs it: without EXT there are nine bits.
-    let formed = (opened.rfa == 0) & (!header.ext | (512 <= header.number));
-    if !formed {
-        return Step::Refused(Refusal::HeaderForm);
-    }
     let end = header.size + header.length;
     if MOST_GATHERED < end {
-        return Step::Refused(Refusal::TooLong);
+        return Err(Refusal::TooLong);
     }
     if !padded(bytes, end) {
-        return Step::Refused(Refusal::CountOrPadding);
+        return Err(Refusal::CountOrPadding);
     }
-    Step::Message(header)
+    Ok(header)
 }
 
 fn header_at(bytes: &[u8]) -> Opened
@@ -48,18 +55,17 @@ fn header_at(bytes: &[u8]) -> Opened
     ensures { result ≡ opened_at bytes.now }
 {
     let ext = bytes[0] / 2 % 2 == 1;
-    let size = crate::header_size(ext);
-    parted(crate::header_from(&bytes[..size]), ext, size)
+    parted(crate::header_from(&bytes[..crate::header_size(ext)]), ext)
 }
 
-// A header of `size` bytes, taken apart.
-fn parted(h: u64, ext: bool, size: usize) -> Opened
-    requires { (size ≡ size_of ext) × (4 ≤ size) × (size ≤ 5) × (h < 2 ^ (8 * size)) }
+// A header, taken apart.
+fn parted(h: u64, ext: bool) -> Opened
+    requires { h < 2 ^ (8 * size_of ext) }
     ensures { result ≡ opened ext h }
 {
     let fields = h / 64;
     Opened {
-        header: reported(h, ext, size),
+        header: reported(h, ext),
         rfa: where_ext(ext, (fields >> 10) % 8) as u8,
         caf: (fields >> 8) % 2 == 1,
         checked: header::check(fields) == h % 64,
@@ -67,10 +73,10 @@ fn parted(h: u64, ext: bool, size: usize) -> Opened
 }
 
 // The fields that are reported: RI to ADD are the first sixteen bits of a header, the others stand above its end.
-fn reported(h: u64, ext: bool, size: usize) -> Header
-    requires { (size ≡ size_of ext) × (4 ≤ size) × (size ≤ 5) }
+fn reported(h: u64, ext: bool) -> Header
     ensures { result ≡ (opened ext h).header }
 {
+    let size = crate::header_size(ext);
     let fields = h / 64;
     let front = fields >> (8 * size - 22);
     let upper = where_ext(ext, (fields >> 13) % 32);
@@ -99,11 +105,6 @@ fn padded(bytes: &[u8], end: usize) -> bool
     requires { end ≤ 260 }
     ensures { result ≡ (eqb (blocks_for end * 20) (length bytes.now) && is_padding (drop end bytes.now)) }
 {
-    let mut right = crate::blocks_for(end) * DATA_IN_BLOCK == bytes.len();
-    let mut i = end;
-    while i < bytes.len() {
-        right = right & (bytes[i] == 0);
-        i += 1;
-    }
-    right
+    crate::blocks_for(end) * DATA_IN_BLOCK == bytes.len()
+        && bytes[end..].iter().all(|byte| *byte == 0)
 }

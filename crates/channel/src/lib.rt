@@ -2,12 +2,11 @@
 // gives messages.
 #![tactic(auto)]
 
-ghost use Rattle.std.specs.Prelude.{true, ◌≡◌, ◌*◌, ◌<◌, ◌≤◌, ◌^◌, length};
-ghost use Rattle.header.specs.Header.{total, holds, header_from};
+ghost use Rattle.std.specs.Prelude.{◌≡◌, ◌*◌, ◌<◌, ◌≤◌, ◌^◌, length};
+ghost use Rattle.header.specs.Header.{header_from};
 ghost use Rattle.channel.specs.Answers.{told_step};
-ghost use Rattle.channel.specs.Layer3.{layer3, header_of, si_lch_of, lf_of, sc_of};
 ghost use Rattle.channel.specs.Layer4.{size_of, blocks_for};
-ghost use Rattle.channel.specs.State.{fresh, keeps_rule, step_of};
+ghost use Rattle.channel.specs.State.{fresh, step_of};
 
 mod layer3;
 mod layer4;
@@ -15,7 +14,6 @@ mod state;
 
 pub use answers::INFORMATION_BYTES;
 use answers::Refusal;
-use layer3::BlockHeader;
 
 // The data in an information block, and the most that is gathered of a message, its header included, in bytes.
 pub const DATA_IN_BLOCK: usize = 20;
@@ -27,21 +25,21 @@ pub const LAST_NUMBER: u16 = 16383;
 
 pub const MOST_DATA: usize = 255;
 
-#[derive(Clone, Copy)]
+#[derive(Clone, Copy, PartialEq, Eq)]
 pub enum Phase {
     Waiting,
     Ready,
     Gathering,
 }
 
-// A channel: `expected` is the SC of the next block, and the bytes gathered so far are the first of `bytes`. These stand last in the
-// struct, which saves a copy of them at each step.
+// A channel: the bytes gathered so far are the first of `bytes`, and `expected` is the SC of the next block. An array with its length,
+// as document 01 has it. The bytes stand first in the struct, which saves a copy of them at each step.
 #[derive(Clone, Copy)]
 pub struct Channel {
+    pub bytes: [u8; MOST_GATHERED],
     pub gathered: usize,
     pub phase: Phase,
     pub expected: u8,
-    pub bytes: [u8; MOST_GATHERED],
 }
 
 // The header of a message: its fields but for RFA and CAF, which are zero; `number` is the service number, `length`
@@ -71,26 +69,28 @@ pub struct Fields {
     pub command: bool,
 }
 
+// What comes of a block that is not refused.
 #[derive(Clone, Copy)]
 pub enum Step {
     Taken,
     Message(Header),
-    Refused(Refusal),
 }
 
+// The answer to a block, and the channel that it leaves: a struct, since a refusal leaves one too.
 #[derive(Clone, Copy)]
 pub struct Stepped {
-    pub answer: Step,
+    pub answer: Result<Step, Refusal>,
     pub channel: Channel,
 }
 
 impl Channel {
     // A fresh channel waits for the end of a message.
-    pub fn new() -> Channel
+    #[tactic(auto, unfolding(crate::specs::State::fresh))]
+    pub fn new() -> Self
         ensures { result ≡ fresh }
     {
         Channel {
-            bytes: [0u8; MOST_GATHERED],
+            bytes: [0; MOST_GATHERED],
             gathered: 0,
             phase: Phase::Waiting,
             expected: 0,
@@ -98,45 +98,15 @@ impl Channel {
     }
 
     // Takes one information block. Refused, with the channel as it stood: a state outside its rule (11), another
-    // length than 22 (1), another channel (5), a wrong check (4). Then as `advance` says.
-    pub fn step(self, information: &[u8]) -> Stepped
+    // length than 22 (1), another channel (5), a wrong check (4). Then by the state, as `Channel::take` says.
+    pub fn step(mut self, information: &[u8]) -> Stepped
         ensures { told_step result ≡ step_of self information.now }
     {
-        if !state::keeps_rule(self) {
-            return state::refused(Refusal::OutsideRule, self);
+        let answer = self.take(information);
+        Stepped {
+            answer,
+            channel: self,
         }
-        if information.len() != INFORMATION_BYTES {
-            return state::refused(Refusal::WrongLength, self);
-        }
-        let header = layer3::read(information);
-        if header.si_lch != 10 {
-            return state::refused(Refusal::OtherChannel, self);
-        }
-        if !header.checked {
-            return state::refused(Refusal::HeaderCheck, self);
-        }
-        self.advance(header, information)
-    }
-
-    // A block with a right header. Dropped, then as waiting: where the channel waits (8), for another SC than the
-    // expected one (8), for a fourteenth block (9). Else the block is joined on: "taken", or with LF what the message's
-    // own tests say (6, 4, 14, 7, or the message). A function of its own, since in one with `step` the compiler copies the
-    // bytes once more.
-    fn advance(self, header: BlockHeader, information: &[u8]) -> Stepped
-        requires { (keeps_rule self ≡ true) × (length information.now ≡ 22) × (let h = header_of information.now in (header.si_lch ≡ si_lch_of h) × (header.lf ≡ lf_of h) × (header.sc ≡ sc_of h) × (header.sc < 16) × (header.checked ≡ holds (total layer3) h)) × (header.si_lch ≡ 10) × (header.checked ≡ true) }
-        ensures { told_step result ≡ step_of self information.now }
-    {
-        let phase = self.phase;
-        if state::is_waiting(phase) {
-            return state::dropped(Refusal::OutOfStep, self, header);
-        }
-        if header.sc != self.expected {
-            return state::dropped(Refusal::OutOfStep, self, header);
-        }
-        if MOST_GATHERED <= self.gathered {
-            return state::dropped(Refusal::TooMany, self, header);
-        }
-        state::join_on(self, header, &information[2..])
     }
 }
 
@@ -147,16 +117,11 @@ pub fn header_size(ext: bool) -> usize
     if ext { 5 } else { 4 }
 }
 
-// The least number of blocks that holds so many bytes; rounded up like this, no number of bytes is too great.
+// The least number of blocks that holds so many bytes; no number of bytes is too great.
 pub fn blocks_for(bytes: usize) -> usize
     ensures { result ≡ blocks_for bytes }
 {
-    let full = bytes / DATA_IN_BLOCK;
-    if bytes % DATA_IN_BLOCK == 0 {
-        full
-    } else {
-        full + 1
-    }
+    bytes.div_ceil(DATA_IN_BLOCK)
 }
 
 // The header that bytes are, the first byte highest.
@@ -164,11 +129,9 @@ pub(crate) fn header_from(bytes: &[u8]) -> u64
     requires { length bytes.now ≤ 5 }
     ensures { (result ≡ header_from bytes.now) × (result < 2 ^ (8 * length bytes.now)) }
 {
-    let mut h: u64 = 0;
-    let mut i: usize = 0;
-    while i < bytes.len() {
-        h = h * 256 + bytes[i] as u64;
-        i += 1;
+    let mut header = 0;
+    for byte in bytes {
+        header = header * 256 + u64::from(*byte);
     }
-    h
+    header
 }

@@ -1,102 +1,90 @@
-// The channel's state: its rule, and what a block with a right header leaves of it.
-ghost use Rattle.std.specs.Prelude.{◌≡◌, ◌+◌, ◌%◌, ◌<◌, ◌≤◌, length};
+// The channel's state: its rule, and what a block makes of it.
+ghost use Rattle.std.specs.Prelude.{◌≡◌, ◌+◌, ◌%◌, ◌≤◌, not, ◌&&◌, eqb, length};
 ghost use Rattle.std.proofs.Math.Seq.{paste};
-ghost use Rattle.answers.specs.Numbers.{number_of};
-ghost use Rattle.channel.specs.Answers.{told_step, channel_after, refused};
-ghost use Rattle.channel.specs.State.{keeps_rule, is_waiting, as_waiting, after_joining};
+ghost use Rattle.channel.specs.Answers.{outcome, channel_after};
+ghost use Rattle.channel.specs.State.{keeps_rule, is_waiting, as_waiting, after_joining, step_of};
 
 use crate::layer3::BlockHeader;
-use crate::{Channel, DATA_IN_BLOCK, MOST_GATHERED, Phase, Step, Stepped, layer4};
+use crate::{Channel, DATA_IN_BLOCK, MOST_GATHERED, Phase, Step, layer4};
 use answers::Refusal;
 
-pub(crate) fn refused(refusal: Refusal, left: Channel) -> Stepped
-    ensures { told_step result ≡ channel_after (refused (number_of refusal)) left }
-{
-    Stepped {
-        answer: Step::Refused(refusal),
-        channel: left,
+impl Channel {
+    // Takes one information block. A state outside its rule (11) and a block whose header is refused leave the channel
+    // as it stood. Dropped, then as waiting: where the channel waits (8), for another SC than the expected one (8), for
+    // a fourteenth block (9). Else the block is joined on: "taken", or with LF what the message's own tests say (6, 4,
+    // 14, 7, or the message).
+    pub(crate) fn take(&mut self, information: &[u8]) -> Result<Step, Refusal>
+        ensures { channel_after (outcome result) self.new ≡ step_of self.old information.now }
+    {
+        if !self.keeps_rule() {
+            return Err(Refusal::OutsideRule);
+        }
+        let header = BlockHeader::read(information)?;
+        if !self.expects(header) {
+            self.drop_gathered(header);
+            return Err(Refusal::OutOfStep);
+        }
+        if MOST_GATHERED <= self.gathered {
+            self.drop_gathered(header);
+            return Err(Refusal::TooMany);
+        }
+        self.join_on(header, &information[2..])
     }
-}
 
-// Whether length and expected SC are as the phase has them.
-pub(crate) fn keeps_rule(channel: Channel) -> bool
-    ensures { result ≡ keeps_rule channel }
-{
-    let phase = channel.phase;
-    let n = channel.gathered;
-    let sc = channel.expected;
-    let held = match phase {
-        Phase::Waiting => (n == 0) & (sc == 0),
-        Phase::Ready => n == 0,
-        Phase::Gathering => (DATA_IN_BLOCK <= n) & (n <= MOST_GATHERED) & (n % DATA_IN_BLOCK == 0),
-    };
-    (sc <= 15) & held
-}
-
-pub(crate) fn is_waiting(phase: Phase) -> bool
-    ensures { result ≡ is_waiting phase }
-{
-    match phase {
-        Phase::Waiting => true,
-        Phase::Ready => false,
-        Phase::Gathering => false,
+    // Whether length and expected SC are as the phase has them.
+    #[tactic(auto, unfolding(crate::specs::State::keeps_rule))]
+    fn keeps_rule(&self) -> bool
+        ensures { result ≡ keeps_rule self.now }
+    {
+        self.expected <= 15
+            && match self.phase {
+                Phase::Waiting => self.gathered == 0 && self.expected == 0,
+                Phase::Ready => self.gathered == 0,
+                Phase::Gathering => {
+                    (DATA_IN_BLOCK..=MOST_GATHERED).contains(&self.gathered)
+                        && self.gathered % DATA_IN_BLOCK == 0
+                }
+            }
     }
-}
 
-// Drops what was gathered, then as waiting: LF makes the channel ready for the next block. No byte changes.
-pub(crate) fn dropped(refusal: Refusal, channel: Channel, header: BlockHeader) -> Stepped
-    requires { header.sc < 16 }
-    ensures { told_step result ≡ channel_after (refused (number_of refusal)) (as_waiting channel header.lf header.sc) }
-{
-    let bytes = channel.bytes;
-    if header.lf {
-        let left = Channel {
-            bytes,
-            gathered: 0,
-            phase: Phase::Ready,
-            expected: (header.sc + 1) % 16,
-        };
-        refused(refusal, left)
-    } else {
-        let left = Channel {
-            bytes,
-            gathered: 0,
-            phase: Phase::Waiting,
-            expected: 0,
-        };
-        refused(refusal, left)
+    // Whether a block goes on with what is gathered, or begins a message.
+    fn expects(&self, header: BlockHeader) -> bool
+        ensures { result ≡ (not (is_waiting self.now.phase) && eqb header.sc self.now.expected) }
+    {
+        self.phase != Phase::Waiting && header.sc == self.expected
     }
-}
 
-// Joins twenty bytes on. With LF all that is gathered is read as a message, and the channel is ready for the next.
-pub(crate) fn join_on(channel: Channel, header: BlockHeader, twenty: &[u8]) -> Stepped
-    requires { (channel.gathered ≤ 240) × (header.sc < 16) × (length twenty.now ≡ 20) }
-    ensures { told_step result ≡ after_joining (paste channel.bytes channel.gathered twenty.now 20) (channel.gathered + 20) header.lf ((header.sc + 1) % 16) }
-{
-    let at = channel.gathered;
-    let end = at + DATA_IN_BLOCK;
-    let next = (header.sc + 1) % 16;
-    let mut bytes = channel.bytes;
-    bytes[at..at + twenty.len()].copy_from_slice(twenty);
-    if header.lf {
-        let answer = layer4::read(&bytes[..end]);
-        let channel = Channel {
-            bytes,
-            gathered: 0,
-            phase: Phase::Ready,
-            expected: next,
-        };
-        Stepped { answer, channel }
-    } else {
-        let channel = Channel {
-            bytes,
-            gathered: end,
-            phase: Phase::Gathering,
-            expected: next,
-        };
-        Stepped {
-            answer: Step::Taken,
-            channel,
+    // Drops what was gathered, then as waiting: LF makes the channel ready for the next block. No byte changes.
+    #[tactic(auto, unfolding(crate::specs::State::as_waiting))]
+    fn drop_gathered(&mut self, header: BlockHeader)
+        ensures { self.new ≡ as_waiting self.old header.lf header.sc }
+    {
+        self.gathered = 0;
+        if header.lf {
+            self.phase = Phase::Ready;
+            self.expected = header.next_sc();
+        } else {
+            self.phase = Phase::Waiting;
+            self.expected = 0;
+        }
+    }
+
+    // Joins twenty bytes on. With LF all that is gathered is read as a message, and the channel is ready for the next.
+    fn join_on(&mut self, header: BlockHeader, twenty: &[u8]) -> Result<Step, Refusal>
+        requires { (self.old.gathered ≤ 240) × (length twenty.now ≡ 20) }
+        ensures { channel_after (outcome result) self.new ≡ after_joining (paste self.old.bytes self.old.gathered twenty.now 20) (self.old.gathered + 20) header.lf ((header.sc + 1) % 16) }
+    {
+        let end = self.gathered + DATA_IN_BLOCK;
+        self.bytes[self.gathered..end].copy_from_slice(twenty);
+        self.expected = header.next_sc();
+        if header.lf {
+            self.gathered = 0;
+            self.phase = Phase::Ready;
+            layer4::read(&self.bytes[..end]).map(Step::Message)
+        } else {
+            self.gathered = end;
+            self.phase = Phase::Gathering;
+            Ok(Step::Taken)
         }
     }
 }

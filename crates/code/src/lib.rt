@@ -19,6 +19,7 @@ const CHECK_POSITIONS: [usize; 17] = [
 ];
 
 // The generator's coefficients below x^82, highest power first.
+#[tactic(auto, unfolding(crate::specs::Code::generator))]
 pub fn generator_row() -> [bool; 82]
     ensures { result ≡ generator }
 {
@@ -27,6 +28,7 @@ pub fn generator_row() -> [bool; 82]
     row
 }
 
+#[tactic(auto, unfolding(crate::specs::Vote::check_positions))]
 pub fn check_positions() -> [usize; 17]
     ensures { result ≡ check_positions }
 {

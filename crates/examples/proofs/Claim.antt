@@ -10,13 +10,14 @@ use lib.Dec.{T, leb, lit≤}
 use lib.Ieee.Fits.{and_r}
 use lib.ListN.{length, get_or, replicate}
 use lib.Pow.{are_bytes}
-use Rattle.answers.specs.Numbers.{accepted, refused, paper}
+use Rattle.answers.specs.Numbers.{accepted, refused}
 use Rattle.gf2.proofs.Remainders.{add_zeros}
 use Rattle.code.specs.Code.{generator, CodeWord, difference, ones, distance}
 use Rattle.code.proofs.Majority.{only_word, nine_away}
 use Rattle.words.specs.Bytes.{bit_of, bits_of, row_of}
 use Rattle.words.specs.Words.{row_of_words}
 use Rattle.words.specs.Near.{Near}
+use Rattle.block.specs.Told.{told_corrected, told_read}
 use Rattle.block.specs.Corrector.{Corrects}
 use Rattle.block.specs.Blocks.{check_divisor, CheckRight, Reads}
 use Rattle.words.proofs.Bytes.{row_once, length_bits_of}
@@ -42,7 +43,8 @@ word_holds received corrected count row lr lc bc code away many near before afte
     close : distance (row_of received) (row_of corrected) ≤ 8
     close = omega (arith, ap ones away)
 
-    outcome : Corrects received before after r → (paper r.answer ≡ accepted) × (after ≡ corrected) × (r.count ≡ count) × (row_of_words r.changed ≡ row)
+    outcome : let t = told_corrected r in
+        Corrects received before after t → (t.answer ≡ accepted) × (after ≡ corrected) × (t.count ≡ count) × (row_of_words t.changed ≡ row)
     outcome (inl u) = absurd (u.wrong (record { input = lr; output = lb }))
     outcome (inr (inl u)) = absurd (u.none (row_of corrected) code close)
     outcome (inr (inr u)) =
@@ -65,7 +67,8 @@ wrong_check_holds received lr code away wrong before after r lb = outcome
     close : distance (row_of received) (row_of received) ≤ 8
     close = omega (arith, ap ones away)
 
-    outcome : Reads received before after r → (paper r.answer ≡ refused 3) × (after ≡ before) × (r.count ≡ 0) × (row_of_words r.changed ≡ no_place)
+    outcome : let t = told_read r in
+        Reads received before after t → (t.answer ≡ refused 3) × (after ≡ before) × (t.count ≡ 0) × (row_of_words t.changed ≡ no_place)
     outcome (inl u) = absurd (u.wrong (record { input = lr; output = lb }))
     outcome (inr (inl u)) = absurd (u.none (row_of received) code close)
     outcome (inr (inr (inl u))) =

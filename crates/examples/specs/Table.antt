@@ -1,10 +1,13 @@
 -- Document 01, "Examples on each side": the examples marked P, in its order, and what each one claims of every outcome
 -- that the promises allow. Assumes nothing.
-use Rattle.std.specs.Prelude.{◌≡◌, Bool, true, false, List, [], ◌∷◌, ◌++◌, ℕ, ◌*◌, ◌≤◌, length, get_or, replicate}
+use Rattle.std.specs.Prelude.{◌≡◌, Bool, true, false, List, [], ◌∷◌, ◌++◌, ℕ, ◌*◌, ◌≤◌, length, get_or, replicate, Result}
 use Rattle.std.proofs.Math.Pow.{are_bytes}
-use Rattle.answers.specs.Numbers.{accepted, refused, paper}
+use Rattle.answers.specs.Numbers.{accepted, refused}
+use Rattle.answers.specs.declared.Refusal.{Refusal}
 use Rattle.code.specs.Code.{generator, ones, distance}
 use Rattle.block.specs.declared.Corrected.{Corrected}
+use Rattle.block.specs.declared.Unread.{Unread}
+use Rattle.block.specs.Told.{told_corrected, told_read}
 use Rattle.words.specs.Bytes.{row_of}
 use Rattle.words.specs.Words.{row_of_words, zero_words}
 use Rattle.block.specs.Corrector.{Corrects}
@@ -16,10 +19,9 @@ use Rattle.channel.specs.declared.Fields.{Fields}
 use Rattle.channel.specs.Answers as channel
 use Rattle.channel.specs.Answers.{channel_after}
 use Rattle.channel.specs.State.{channel_with, fresh, keeps_rule, step_of}
-use Rattle.writer.specs.declared.Wrote.{Wrote}
-use Rattle.writer.specs.Message.{write_message_of, LeavesBlocks}
-use Rattle.band.specs.declared.KilohertzAnswer.{KilohertzAnswer}
-use Rattle.band.specs.declared.ChannelAnswer.{ChannelAnswer}
+use Rattle.writer.specs.Message.{write_message_of, wrote_answer, wrote_blocks, LeavesBlocks}
+use Rattle.band.specs.declared.Kilohertz.{Kilohertz}
+use Rattle.band.specs.declared.Channel as band
 use Rattle.band.specs.Band.{told_kilohertz, kilohertz_of, told_channel, numbered_of}
 
 pub data Example : Type 0 where
@@ -90,30 +92,30 @@ table =
 -- every outcome of the corrector for these bytes: accepted, with this word, this count and this row
 abbrev pub GivesWord : (received corrected : List ℕ) (count : ℕ) (row : List Bool) → Type 0
 GivesWord received corrected count row =
-    (before after : List ℕ) (r : Corrected) → length before ≡ 34 → are_bytes after ≡ true → Corrects received before after r
-    → (paper r.answer ≡ accepted) × (after ≡ corrected) × (r.count ≡ count) × (row_of_words r.changed ≡ row)
+    (before after : List ℕ) (r : Result Corrected Refusal) → length before ≡ 34 → are_bytes after ≡ true → let t = told_corrected r in
+    Corrects received before after t → (t.answer ≡ accepted) × (after ≡ corrected) × (t.count ≡ count) × (row_of_words t.changed ≡ row)
 
 -- every outcome of the corrector for these bytes: answer 2, count 0, the row zero, the output as before
 abbrev pub GivesNoWord : (received : List ℕ) → Type 0
 GivesNoWord received =
-    (before after : List ℕ) (r : Corrected) → length before ≡ 34 → Corrects received before after r
-    → (paper r.answer ≡ refused 2) × (after ≡ before) × (r.count ≡ 0) × (r.changed ≡ zero_words)
+    (before after : List ℕ) (r : Result Corrected Refusal) → length before ≡ 34 → let t = told_corrected r in
+    Corrects received before after t → (t.answer ≡ refused 2) × (after ≡ before) × (t.count ≡ 0) × (t.changed ≡ zero_words)
 
 -- every outcome of the message writer for fields within their widths, a number from `least` to `most`, so many data bytes
 -- and room enough: accepted, with so many blocks
 abbrev pub Fills : (least most bytes blocks : ℕ) → Type 0
 Fills least most bytes blocks =
-    (m : Fields) (di : Bool) (sc : ℕ) (s before after : List ℕ) (r : Wrote) → m.ri ≤ 3 → m.ci ≤ 3 → least ≤ m.number → m.number ≤ most → sc ≤ 15
+    (m : Fields) (di : Bool) (sc : ℕ) (s before after : List ℕ) (r : Result ℕ Refusal) → m.ri ≤ 3 → m.ci ≤ 3 → least ≤ m.number → m.number ≤ most → sc ≤ 15
     → length s ≡ bytes → 22 * blocks ≤ length before → LeavesBlocks (write_message_of m di sc s (length before)) r before after
-    → (paper r.answer ≡ accepted) × (r.blocks ≡ blocks)
+    → (wrote_answer r ≡ accepted) × (wrote_blocks r ≡ blocks)
 
 abbrev pub Holds : Example → Type 0
 Holds (word received corrected count row) = GivesWord received corrected count row
 Holds (no_word received) = GivesNoWord received
 Holds (generator_last block many) = (row_of block ≡ replicate 189 false ++ (true ∷ generator)) × (ones (row_of block) ≡ many)
 Holds (wrong_check received count row) =
-    (before after : List ℕ) (r : Corrected) → length before ≡ 22 → Reads received before after r
-    → (paper r.answer ≡ refused 3) × (after ≡ before) × (r.count ≡ count) × (row_of_words r.changed ≡ row)
+    (before after : List ℕ) (r : Result Corrected Unread) → length before ≡ 22 → let t = told_read r in
+    Reads received before after t → (t.answer ≡ refused 3) × (after ≡ before) × (t.count ≡ count) × (row_of_words t.changed ≡ row)
 Holds (cleared_word many corrected count) =
     ((received : List ℕ) × Cleared many received) × ((received : List ℕ) → Cleared many received → GivesWord received corrected count (row_of received))
 Holds (cleared_no_word many) = ((received : List ℕ) × Cleared many received) × ((received : List ℕ) → Cleared many received → GivesNoWord received)
@@ -124,12 +126,13 @@ Holds (header_refused first second number) =
     (c : Channel) (twenty : List ℕ) (r : Stepped) → keeps_rule c ≡ true → length twenty ≡ 20 → channel.told_step r ≡ step_of c (first ∷ second ∷ twenty)
     → channel.told_step r ≡ channel_after (channel.refused number) c
 Holds (khz channel kilohertz) =
-    (r : KilohertzAnswer) → told_kilohertz r ≡ kilohertz_of (record { 0 = channel })
-    → (paper r.answer ≡ accepted) × (r.kilohertz.0 ≡ kilohertz)
+    (r : Result Kilohertz Refusal) → let t = told_kilohertz r in
+    t ≡ kilohertz_of (record { 0 = channel }) → (t.answer ≡ accepted) × (t.number ≡ kilohertz)
 Holds (reserved channel) =
-    ((r : ChannelAnswer) → told_channel r ≡ numbered_of channel → (paper r.answer ≡ refused 11) × (r.channel.0 ≡ 0))
-    × ((r : KilohertzAnswer) → told_kilohertz r ≡ kilohertz_of (record { 0 = channel })
-    → (paper r.answer ≡ refused 11) × (r.kilohertz.0 ≡ 0))
+    ((r : Result band.Channel Refusal) → let t = told_channel r in
+    t ≡ numbered_of channel → (t.answer ≡ refused 11) × (t.number ≡ 0))
+    × ((r : Result Kilohertz Refusal) → let t = told_kilohertz r in
+    t ≡ kilohertz_of (record { 0 = channel }) → (t.answer ≡ refused 11) × (t.number ≡ 0))
 -- a number below 512 is written without EXT, a greater one with it
 Holds (short bytes blocks) = Fills 0 511 bytes blocks
 Holds (extended bytes blocks) = Fills 512 16383 bytes blocks

@@ -7,12 +7,15 @@ use Prim.Native.Nat.{ℕ}
 use native.Mathlib.Omega.{arith}
 use lib.ListN.{length, take, drop, replicate, drop_of_length-le, length-replicate}
 use lib.Seq.{take-length}
-use Rattle.answers.specs.declared.Answer.TheVariants.{Accepted, Refused}
+use Rattle.std.specs.Prelude.{Result, Ok, Err}
+use Rattle.std.specs.Result.{is_err}
+use Rattle.gf2.specs.Poly.{bit}
 use Rattle.answers.specs.declared.Refusal.{Refusal}
-use Rattle.answers.specs.Numbers.{number_of, paper}
+use Rattle.answers.specs.Numbers.{number_of}
 use Rattle.answers.proofs.Determined.{refused_accepted}
 use Rattle.words.specs.Bytes.{row_of}
 use Rattle.block.specs.declared.Corrected.{Corrected}
+use Rattle.block.specs.Told.{told_corrected}
 use Rattle.block.specs.Corrector.{Corrects}
 use Rattle.frame.specs.Frames.{Becomes, corrected, kept}
 
@@ -21,16 +24,13 @@ pub all_copied : (row : List ℕ) → length row ≡ 34 → take (length row) ro
 all_copied row l =
     (λ i. take-length row i ++ drop_of_length-le (replicate 34 0) {i = length row} (omega (arith, length-replicate {A = ℕ} 34 0)) i) ∙ append-nil row
 
-module _ (received before after : List ℕ) (r : Corrected) (l : length before ≡ 34) (same : received ≡ before) where
-  pub row_accepted : Corrects received before after r → r.answer ≡ Accepted → Becomes (row_of before) (row_of after) 0
-  row_accepted (inl w) e = absurd (w.wrong (record { input = ap length same ∙ l; output = l }))
-  row_accepted (inr (inl n)) e = absurd (refused_accepted 2 (sym n.answers ∙ ap paper e))
-  row_accepted (inr (inr w)) e =
+module _ (received before after : List ℕ) (l : length before ≡ 34) (same : received ≡ before) where
+  pub row_becomes : (r : Result Corrected Refusal) → Corrects received before after (told_corrected r) → Becomes (row_of before) (row_of after) (bit (is_err r))
+  row_becomes r (inl w) = absurd (w.wrong (record { input = ap length same ∙ l; output = l }))
+  row_becomes (Ok r) (inr (inl n)) = absurd (refused_accepted 2 (sym n.answers))
+  row_becomes (Ok r) (inr (inr w)) =
       subst (λ (xs : List ℕ). Becomes (row_of xs) (row_of after) 0) same
       (subst (λ (x : List Bool). Becomes (row_of received) x 0) (sym w.written) (corrected w.found.code w.found.near))
-
-  pub row_refused : (refusal : Refusal) → Corrects received before after r → r.answer ≡ Refused refusal → Becomes (row_of before) (row_of after) 1
-  row_refused refusal (inl w) e = absurd (w.wrong (record { input = ap length same ∙ l; output = l }))
-  row_refused refusal (inr (inl n)) e =
+  row_becomes (Err refusal) (inr (inl n)) =
       subst (λ (xs : List ℕ). Becomes (row_of xs) (row_of after) 1) same (kept n.none (ap row_of (n.same ∙ sym same)))
-  row_refused refusal (inr (inr w)) e = absurd (refused_accepted (number_of refusal) (sym (ap paper e) ∙ w.answers))
+  row_becomes (Err refusal) (inr (inr w)) = absurd (refused_accepted (number_of refusal) w.answers)

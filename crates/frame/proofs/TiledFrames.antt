@@ -2,10 +2,9 @@
 use mathlib.Core.Path.{◌≡◌, sym, ap, ◌∙◌, subst}
 use mathlib.Core.List.{List}
 use Prim.Native.Nat.{ℕ, ◌+◌, ◌*◌, ◌/◌, ◌%◌, ◌^◌, ◌<◌}
-use native.Mathlib.Decide.{dec_lt, ℕ_discrete}
+use native.Mathlib.Decide.{dec_lt}
 use native.Mathlib.Omega.{arith}
-use lib.ListN.{length, get_or, set}
-use lib.Seq.{get_or-set_same, get_or-set_other}
+use lib.ListN.{get_or}
 use Rattle.words.specs.Bytes.{bit_of}
 use Rattle.words.proofs.Shifts.{bit_of_mod, bit_of_shr}
 use Rattle.frame.specs.Frames.{frame_of, turned_round, Stage}
@@ -37,17 +36,6 @@ pub record Putting (down along tile : ℕ) (before after : List ℕ) (j : ℕ) :
   pub rest : (q : ℕ) → ((m : ℕ) → m < 8 → q ≡ tile_byte down along m → ⊥) → get_or after q 0 ≡ get_or before q 0
 
 module _ (down along tile : ℕ) (before after : List ℕ) where
-  pub putting_turn : (j v : ℕ) → j < 8 → tile_byte down along j < length after → v ≡ tile / 2 ^ (8 * j) % 2 ^ 8 → Putting down along tile before after j
-      → Putting down along tile before (set after (tile_byte down along j) v) (j + 1)
-  putting_turn j v h within e p = record {
-    done = λ m l. elim (ℕ_discrete m j) [
-      | yes s ↦ subst (λ (k : ℕ). get_or (set after (tile_byte down along j) v) (tile_byte down along k) 0 ≡ tile / 2 ^ (8 * k) % 2 ^ 8) (sym s)
-          (get_or-set_same after (tile_byte down along j) v 0 within ∙ e)
-      | no d ↦ get_or-set_other after (tile_byte down along j) (tile_byte down along m) v 0 (λ s. d (omega arith)) ∙ p.done m (omega arith)
-    ];
-    rest = λ q other. get_or-set_other after (tile_byte down along j) q v 0 (λ s. other j h s) ∙ p.rest q other;
-  }
-
   pub putting_done : along < 34 → Putting down along tile before after 8 → PutsTile down along tile before after
   putting_done h p = record {
     put = λ j i g l. sym (tile_bit after down along j i h l ∙ ap (λ (x : ℕ). bit_of x i) (p.done j g) ∙ bit_of_mod (tile / 2 ^ (8 * j)) 8 i l ∙ bit_of_shr tile (8 * j) i);

@@ -1,6 +1,7 @@
 -- Document 02, ticket 5: a frame's bits, the two stages, and what the frame corrector answers, over the code of document 01. Assumes nothing.
-use Rattle.std.specs.Prelude.{◌≡◌, Bool, List, ◌⊎◌, ℕ, suc, ◌+◌, ◌*◌, ◌≤◌, ◌<◌, length, take, drop}
-use Rattle.answers.specs.Numbers.{accepted, refused, paper}
+use Rattle.std.specs.Prelude.{◌≡◌, Bool, List, ◌⊎◌, ℕ, suc, ◌+◌, ◌*◌, ◌≤◌, ◌<◌, Result, Ok, Err, length, take, drop}
+use Rattle.answers.specs.Numbers.{Paper, accepted, refused, number_of}
+use Rattle.answers.specs.declared.Refusal.{Refusal}
 use Rattle.gf2.specs.Poly.{row_from}
 use Rattle.code.specs.Code.{CodeWord, distance, most_corrected}
 use Rattle.words.specs.Bytes.{bit_in}
@@ -33,25 +34,35 @@ pub data Stage (received result : Frame) : (rows refusals : ℕ) → Type 0 wher
   start : Stage received result 0 0
   next : {n refusals more : ℕ} → Stage received result n refusals → Becomes (row_in received n) (row_in result n) more → Stage received result (suc n) (refusals + more)
 
+-- What the frame corrector answers, as the paper has it; refused, both numbers are 0.
+pub record ToldFrame : Type 0 where
+  pub answer : Paper
+  pub refused_rows : ℕ
+  pub refused_columns : ℕ
+
+abbrev pub told_frame : Result CorrectedFrame Refusal → ToldFrame
+told_frame (Ok frame) = record { answer = accepted; refused_rows = frame.refused_rows; refused_columns = frame.refused_columns }
+told_frame (Err refusal) = record { answer = refused (number_of refusal); refused_rows = 0; refused_columns = 0 }
+
 -- 1: another buffer length, before anything else; buffer unchanged, both numbers 0
-pub record AnotherLength (received after : List ℕ) (r : CorrectedFrame) : Type 0 where
+pub record AnotherLength (received after : List ℕ) (t : ToldFrame) : Type 0 where
   pub wrong : length received ≡ 9248 → ⊥
-  pub answers : paper r.answer ≡ refused 1
-  pub no_rows : r.refused_rows ≡ 0
-  pub no_columns : r.refused_columns ≡ 0
+  pub answers : t.answer ≡ refused 1
+  pub no_rows : t.refused_rows ≡ 0
+  pub no_columns : t.refused_columns ≡ 0
   pub same : after ≡ received
 
 -- accepted: each row, then each column of what the rows have become; so a refused column keeps its bits as they were after the row stage
-pub record TwoStages (received after : List ℕ) (r : CorrectedFrame) : Type 0 where
+pub record TwoStages (received after : List ℕ) (t : ToldFrame) : Type 0 where
   pub sized : length received ≡ 9248
   pub after_rows : Frame
-  pub rows : Stage (frame_of received) after_rows 272 r.refused_rows
-  pub columns : Stage (turned_round after_rows) (turned_round (frame_of after)) 272 r.refused_columns
-  pub answers : paper r.answer ≡ accepted
+  pub rows : Stage (frame_of received) after_rows 272 t.refused_rows
+  pub columns : Stage (turned_round after_rows) (turned_round (frame_of after)) 272 t.refused_columns
+  pub answers : t.answer ≡ accepted
   pub long : length after ≡ 9248
 
-abbrev pub CorrectsFrame : (received after : List ℕ) (r : CorrectedFrame) → Type 0
-CorrectsFrame received after r = AnotherLength received after r ⊎ TwoStages received after r
+abbrev pub CorrectsFrame : (received after : List ℕ) (t : ToldFrame) → Type 0
+CorrectsFrame received after t = AnotherLength received after t ⊎ TwoStages received after t
 
 -- Every row and every column is meant to be a code word.
 pub record CodeFrame (bytes : List ℕ) : Type 0 where

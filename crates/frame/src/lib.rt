@@ -2,12 +2,13 @@
 #![tactic(auto)]
 
 ghost use Rattle.std.specs.Prelude.{◌≡◌, length};
+ghost use Rattle.gf2.specs.Poly.{bit};
 ghost use Rattle.words.specs.Bytes.{row_of};
-ghost use Rattle.frame.specs.Frames.{frame_of, turned_round, Becomes, Stage, CorrectsFrame};
+ghost use Rattle.frame.specs.Frames.{frame_of, turned_round, Becomes, Stage, told_frame, CorrectsFrame};
 
 mod tiles;
 
-use answers::{Answer, Refusal};
+use answers::Refusal;
 use block::BLOCK_BYTES;
 
 // 272 rows of 34 bytes: 190 information rows, then 82 parity rows.
@@ -15,10 +16,9 @@ pub const FRAME_BYTES: usize = 9248;
 
 const ROWS: usize = 272;
 
-// What the frame corrector answers, and how many rows and how many columns were refused.
+// How many rows and how many columns were refused.
 #[derive(Clone, Copy)]
 pub struct CorrectedFrame {
-    pub answer: Answer,
     pub refused_rows: u16,
     pub refused_columns: u16,
 }
@@ -26,70 +26,55 @@ pub struct CorrectedFrame {
 // Corrects each row of the frame, and then each column of what the rows have become: each becomes the code word that differs
 // from it in at most eight places. One that has none is refused and counted: a row stays as received, a column as the rows
 // left it.
-// Answer 1: `frame` has another length than 9,248; it is as it was, and both numbers are zero.
-pub fn correct_frame(frame: &mut [u8]) -> CorrectedFrame
-    ensures { CorrectsFrame frame.old frame.new result }
+// Refusal 1: `frame` has another length than 9,248; it is as it was.
+pub fn correct_frame(frame: &mut [u8]) -> Result<CorrectedFrame, Refusal>
+    ensures { CorrectsFrame frame.old frame.new (told_frame result) }
 {
-    if frame.len() != FRAME_BYTES {
-        return CorrectedFrame {
-            answer: Answer::Refused(Refusal::WrongLength),
-            refused_rows: 0,
-            refused_columns: 0,
-        };
-    }
+    let Some(frame) = frame.as_mut_array::<FRAME_BYTES>() else {
+        return Err(Refusal::WrongLength);
+    };
     let refused_rows = correct_rows(frame);
     let refused_columns = correct_columns(frame);
-    CorrectedFrame {
-        answer: Answer::Accepted,
+    Ok(CorrectedFrame {
         refused_rows,
         refused_columns,
-    }
+    })
 }
 
 // Corrects each column, a row of the frame turned round, and counts those that were refused. Where no column has changed, as
 // in most frames, the frame is not turned back.
-fn correct_columns(frame: &mut [u8]) -> u16
-    requires { length frame.old ≡ 9248 }
+fn correct_columns(frame: &mut [u8; FRAME_BYTES]) -> u16
     ensures { Stage (turned_round (frame_of frame.old)) (turned_round (frame_of frame.new)) 272 result }
 {
-    let mut turned = [0u8; FRAME_BYTES];
+    let mut turned = [0; FRAME_BYTES];
     tiles::turn_round(frame, &mut turned);
     let before = turned;
     let refused = correct_rows(&mut turned);
-    if text::same(&before, &turned) {
-        return refused;
+    if turned != before {
+        tiles::turn_round(&turned, frame);
     }
-    tiles::turn_round(&turned, frame);
     refused
 }
 
 // Corrects each row, and counts those that were refused.
-fn correct_rows(frame: &mut [u8]) -> u16
-    requires { length frame.old ≡ 9248 }
+fn correct_rows(frame: &mut [u8; FRAME_BYTES]) -> u16
     ensures { Stage (frame_of frame.old) (frame_of frame.new) 272 result }
 {
-    let mut refused: u16 = 0;
-    let mut n: usize = 0;
-    while n < ROWS {
+    let mut refused = 0;
+    // By number: after `chunks_exact_mut` a proof knows the frame's length alone.
+    for n in 0..ROWS {
         let at = BLOCK_BYTES * n;
-        let end = at + BLOCK_BYTES;
-        refused += correct_row(&mut frame[at..end]);
-        n += 1;
+        refused += u16::from(correct_row(&mut frame[at..at + BLOCK_BYTES]));
     }
     refused
 }
 
-// Corrects one row; 1 where it was refused.
-fn correct_row(row: &mut [u8]) -> u16
+// Corrects one row, and tells whether it was refused.
+fn correct_row(row: &mut [u8]) -> bool
     requires { length row.old ≡ 34 }
-    ensures { Becomes (row_of row.old) (row_of row.new) result }
+    ensures { Becomes (row_of row.old) (row_of row.new) (bit result) }
 {
-    let mut received = [0u8; BLOCK_BYTES];
+    let mut received = [0; BLOCK_BYTES];
     received.copy_from_slice(row);
-    let corrected = block::correct(&received, row);
-    let answer = corrected.answer;
-    match answer {
-        Answer::Accepted => 0,
-        Answer::Refused(_) => 1,
-    }
+    block::correct(&received, row).is_err()
 }

@@ -4,6 +4,7 @@ ghost use Rattle.std.specs.Prelude.{◌≡◌, ℕ, ◌+◌, ◌*◌, ◌<◌, l
 ghost use Rattle.words.specs.Bytes.{bit_of};
 ghost use Rattle.frame.specs.Tiles.{exchanged, TileOf, PutsTile, TurnedRound};
 
+use super::FRAME_BYTES;
 use block::BLOCK_BYTES;
 
 // The tiles of a frame, 34 one below the other and 34 along.
@@ -20,45 +21,38 @@ const OF_FOUR: u64 = 0x0000_cccc_0000_cccc;
 const OF_EIGHT: u64 = 0x0000_0000_f0f0_f0f0;
 
 // Fills `turned` with the frame turned round: position p of its row n is position n of row p.
-pub(crate) fn turn_round(frame: &[u8], turned: &mut [u8])
-    requires { (length frame.now ≡ 9248) × (length turned.old ≡ 9248) }
+pub(crate) fn turn_round(frame: &[u8; FRAME_BYTES], turned: &mut [u8; FRAME_BYTES])
     ensures { TurnedRound frame.now turned.new }
 {
-    let mut t: usize = 0;
-    while t < TILES {
+    for t in 0..TILES {
         let down = t / BLOCK_BYTES;
         let along = t % BLOCK_BYTES;
         let tile = turned_tile(tile_at(frame, along, down));
         put_tile(turned, down, along, tile);
-        t += 1;
     }
 }
 
 // The tile in eight rows from 8 x `down` on, at eight positions from 8 x `along` on.
-fn tile_at(frame: &[u8], down: usize, along: usize) -> u64
-    requires { (length frame.now ≡ 9248) × (down < 34) × (along < 34) }
+fn tile_at(frame: &[u8; FRAME_BYTES], down: usize, along: usize) -> u64
+    requires { (down < 34) × (along < 34) }
     ensures { TileOf frame.now down along result }
 {
-    let mut tile: u64 = 0;
-    let mut j: usize = 0;
-    while j < TILE_ROWS {
+    let mut tile = 0;
+    for j in 0..TILE_ROWS {
         let at = BLOCK_BYTES * (TILE_ROWS * down + j) + along;
-        tile = tile | ((frame[at] as u64) << (8 * j));
-        j += 1;
+        tile |= u64::from(frame[at]) << (8 * j);
     }
     tile
 }
 
 // Puts a tile in its place.
-fn put_tile(frame: &mut [u8], down: usize, along: usize, tile: u64)
-    requires { (length frame.old ≡ 9248) × (down < 34) × (along < 34) }
+fn put_tile(frame: &mut [u8; FRAME_BYTES], down: usize, along: usize, tile: u64)
+    requires { (down < 34) × (along < 34) }
     ensures { PutsTile down along tile frame.old frame.new }
 {
-    let mut j: usize = 0;
-    while j < TILE_ROWS {
+    for j in 0..TILE_ROWS {
         let at = BLOCK_BYTES * (TILE_ROWS * down + j) + along;
         frame[at] = ((tile >> (8 * j)) % 256) as u8;
-        j += 1;
     }
 }
 
@@ -73,6 +67,7 @@ fn turned_tile(tile: u64) -> u64
 }
 
 // The tile with each chosen place exchanged with the one so far on.
+#[tactic(auto, unfolding(crate::specs::Tiles::exchanged))]
 fn exchange(tile: u64, far: usize, chosen: u64) -> u64
     requires { far < 64 }
     ensures { result ≡ exchanged far chosen tile }

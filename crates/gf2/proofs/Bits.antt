@@ -2,12 +2,18 @@
 use mathlib.Core.Path.{◌≡◌, refl, sym, ap, ◌∙◌}
 use mathlib.Core.Bool.{Bool, true, false, ◌&&◌}
 use Prim.Native.Nat.{◌<◌}
+use mir.Val.{bool_byte}
 use native.Mathlib.Omega.{arith}
 use Rattle.gf2.specs.Poly.{bit, ◌⊕◌}
 
 pub bit_lt : (b : Bool) → bit b < 2
 bit_lt true = omega arith
 bit_lt false = omega arith
+
+-- the library's number of a bit
+pub number_of_bit : (b : Bool) → bool_byte b ≡ bit b
+number_of_bit true = refl
+number_of_bit false = refl
 
 pub ⊕_self : (x : Bool) → x ⊕ x ≡ false
 ⊕_self true = refl

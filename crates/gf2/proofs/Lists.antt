@@ -1,15 +1,14 @@
 -- Lists in loops: the place where a loop stands, and what it has filled so far. Assumes nothing.
-use mathlib.Core.Path.{◌≡◌, refl, sym, ap, subst, ◌∙◌}
+use mathlib.Core.Path.{◌≡◌, refl, sym, ap, ◌∙◌}
 use mathlib.Core.Bool.{Bool, false}
 use mathlib.Core.List.{List, [], ◌∷◌, ◌++◌, append-nil, append_assoc}
 use Prim.Native.Nat.{ℕ, zero, suc, ◌+◌, ◌-◌, ◌<◌}
 use native.Mathlib.Nat.{zero-add, add-zero}
-use native.Mathlib.Decide.{ℕ_discrete}
 use native.Mathlib.Numerals.{add-one}
 use native.Mathlib.Omega.{arith}
 use borrow.Rule.Slice.PartMut.{put_mid}
 use lib.ListN.{length, get_or, set, take, drop, length-drop, drop_of_length-le}
-use lib.Seq.{get_or-set_same, get_or-set_other, drop-cons, take-suc, length-take-le, set_at}
+use lib.Seq.{drop-cons, take-suc, length-take-le, set_at}
 use Rattle.gf2.specs.Poly.{row_from}
 
 -- a list from a place on: what stands there, and what is behind it
@@ -23,16 +22,8 @@ tail_back {A} xs ys a =
     ∙ ap (λ (zs : List A). take a xs ++ zs) (append-nil ys)
 
 -- the places below p hold the values of f
-module _ {A : Type 0} (d : A) (f : ℕ → A) where
-  abbrev pub Filled : List A → ℕ → Type 0
-  Filled xs p = (i : ℕ) → i < p → get_or xs i d ≡ f i
-
-  pub filled_more : (xs : List A) (p : ℕ) (v : A) → p < length xs → v ≡ f p → Filled xs p → Filled (set xs p v) (p + 1)
-  filled_more xs p v h e old i l =
-      elim (ℕ_discrete i p) [
-        | yes q ↦ subst (λ (k : ℕ). get_or (set xs p v) k d ≡ f k) (sym q) (get_or-set_same xs p v d h ∙ e)
-        | no q ↦ get_or-set_other xs p i v d q ∙ old i (omega arith)
-      ]
+abbrev pub Filled : {A : Type 0} (d : A) (f : ℕ → A) → List A → ℕ → Type 0
+Filled d f xs p = (i : ℕ) → i < p → get_or xs i d ≡ f i
 
 -- the places below p are copied from another list, the rest is as it was
 pub front_turn : {A : Type 0} (new old now : List A) (p : ℕ) (v d : A) → p < length new → p < length old → v ≡ get_or new p d

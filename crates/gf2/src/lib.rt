@@ -3,20 +3,20 @@
 #![tactic(auto)]
 
 ghost use Rattle.std.specs.Prelude.{◌≡◌, ◌-◌, ◌<◌, ◌≤◌, length};
-ghost use Rattle.gf2.specs.Poly.{bit, ◌⊕◌, add, divided, elem, lower};
+ghost use Rattle.gf2.specs.Poly.{bit, ◌⊕◌, add, divided, lower};
 
-// A bit as a number.
+// A bit as a number: `u64::from`, with the promise that it is the field's own 0 or 1.
 pub fn number(b: bool) -> u64
     ensures { (result ≡ bit b) × (result < 2) }
 {
-    if b { 1 } else { 0 }
+    u64::from(b)
 }
 
-// The sum of two bits.
+// The sum of two bits: `^`, with the promise that it is the field's own sum.
 pub fn sum(a: bool, b: bool) -> bool
     ensures { result ≡ a ⊕ b }
 {
-    if a { !b } else { b }
+    a ^ b
 }
 
 // Adds `low` into the leading places of `row`.
@@ -24,10 +24,8 @@ fn add_in(low: &[bool], row: &mut [bool])
     requires { length low.now ≤ length row.old }
     ensures { row.new ≡ add low.now row.old }
 {
-    let mut j: usize = 0;
-    while j < low.len() {
-        row[j] = sum(low[j], row[j]);
-        j += 1;
+    for j in 0..low.len() {
+        row[j] ^= low[j];
     }
 }
 
@@ -36,18 +34,11 @@ fn add_in(low: &[bool], row: &mut [bool])
 pub fn divide(row: &mut [bool], low: &[bool])
     ensures { row.new ≡ divided low.now (length row.old - length low.now) row.old }
 {
-    if row.len() < low.len() {
-        return;
-    }
-    let steps = row.len() - low.len();
-    let mut i: usize = 0;
-    while i < steps {
-        let behind = i + 1;
+    for i in 0..row.len().saturating_sub(low.len()) {
         // The divisor's leading 1 meets the place `i`, whose bit is the quotient's and stays.
         if row[i] {
-            add_in(low, &mut row[behind..]);
+            add_in(low, &mut row[i + 1..]);
         }
-        i = behind;
     }
 }
 
@@ -55,22 +46,7 @@ pub fn divide(row: &mut [bool], low: &[bool])
 pub fn fill_lower(powers: &[usize], row: &mut [bool])
     ensures { row.new ≡ lower (length row.old) powers.now }
 {
-    let mut place: usize = 0;
-    while place < row.len() {
-        row[place] = is_among(row.len() - 1 - place, powers);
-        place += 1;
+    for place in 0..row.len() {
+        row[place] = powers.contains(&(row.len() - 1 - place));
     }
-}
-
-fn is_among(power: usize, powers: &[usize]) -> bool
-    ensures { result ≡ elem power powers.now }
-{
-    let mut i: usize = 0;
-    while i < powers.len() {
-        if powers[i] == power {
-            return true;
-        }
-        i += 1;
-    }
-    false
 }

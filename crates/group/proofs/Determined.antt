@@ -2,7 +2,9 @@
 use Prim.Native.Nat.{ℕ}
 use mathlib.Core.Path.{◌≡◌, refl, sym, ap, ◌∙◌}
 use mathlib.Core.List.{List}
+use Rattle.std.specs.Prelude.{Result, Ok, Err}
 use Rattle.answers.specs.Numbers.{paper}
+use Rattle.answers.specs.declared.Refusal.{Refusal}
 use Rattle.answers.proofs.Determined.{refusal_of, undone, paper_once}
 use Rattle.channel.specs.declared.Fields.{Fields}
 use Rattle.group.specs.Answers.{Outcome, taken, repeat, whole, refused, outcome, GroupAfter, told_join, made}
@@ -11,7 +13,7 @@ use Rattle.group.specs.State.{new_of, join_of}
 use Rattle.group.specs.declared.Group.{Group}
 use Rattle.group.specs.declared.Made.{Made}
 use Rattle.group.specs.declared.Step.{Step}
-use Rattle.group.specs.declared.Step.TheVariants.{Taken, Repeat, Whole, Refused}
+use Rattle.group.specs.declared.Step.TheVariants.{Taken, Repeat, Whole}
 use Rattle.group.specs.declared.Stepped.{Stepped}
 
 -- `Group::new`
@@ -23,18 +25,18 @@ new_once number r s p q =
     λ i. record { answer = answer i; group = group i }
 
 -- the answer that an outcome tells of
-answer_of : Outcome → Step
-answer_of taken = Taken
-answer_of repeat = Repeat
-answer_of (whole n) = Whole n
-answer_of (refused n) = Refused (refusal_of n)
+answer_of : Outcome → Result Step Refusal
+answer_of taken = Ok Taken
+answer_of repeat = Ok Repeat
+answer_of (whole n) = Ok (Whole n)
+answer_of (refused n) = Err (refusal_of n)
 
-told_back : (a : Step) → answer_of (outcome a) ≡ a
+told_back : (a : Result Step Refusal) → answer_of (outcome a) ≡ a
 unfolding answer_of
-told_back Taken = refl
-told_back Repeat = refl
-told_back (Whole n) = refl
-told_back (Refused r) = ap Refused (undone r)
+told_back (Ok Taken) = refl
+told_back (Ok Repeat) = refl
+told_back (Ok (Whole n)) = refl
+told_back (Err r) = ap Err (undone r)
 
 -- `Group::join`: what it returns, and the buffer
 pub join_once : (g : Group) (m : Fields) (s buffer : List ℕ) (r t : Stepped) (x y : List ℕ) → told_join r x ≡ join_of g m s buffer → told_join t y ≡ join_of g m s buffer → (r ≡ t) × (x ≡ y)

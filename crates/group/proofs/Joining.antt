@@ -1,22 +1,28 @@
 -- The step's definition, test by test, as the code makes them. Assumes nothing.
 use Prim.Native.Nat.{ℕ, ◌+◌, ◌%◌, ◌≤◌, ◌<◌}
-use mathlib.Core.Path.{◌≡◌, refl, sym, ◌∙◌}
+use mathlib.Core.Path.{◌≡◌, refl, sym, ap, ◌∙◌}
 use mathlib.Core.Bool.{Bool, true, false, not, cond, ◌||◌}
 use mathlib.Core.List.{List}
-use borrow.Author.Tests.{eq-eqb, ne_eqb, le-leb, lt-leb, lt-ltb, le-ltb}
+use borrow.Author.Tests.{le-leb, lt-leb, ltb-true}
 use lib.Dec.{eqb, ltb}
 use lib.ListN.{length}
+use Rattle.answers.specs.Numbers as numbers
 use Rattle.answers.specs.Rules.{unless}
 use Rattle.channel.specs.declared.Fields.{Fields}
 use Rattle.group.specs.Answers.{repeat, refused, GroupAfter, group_after}
-use Rattle.group.specs.State.{idle, keeps_rule, message_fits, is_idle, is_repeat, joined_on, join_of}
+use Rattle.group.specs.State.{idle, keeps_rule, message_fits, is_idle, is_repeat, follows_of, joined_on, join_of}
 use Rattle.group.specs.declared.Group.{Group}
+use Rattle.channel.proofs.Order.{refused_or, in_order, all_passed}
 
 -- two tests with one answer, as one on either
 either : {A : Type 0} (a k : Bool) (x y : A) → unless a x (unless (not k) x y) ≡ unless (not (not a || k)) x y
 either true true x y = refl
 either true false x y = refl
 either false k x y = refl
+
+-- what is not turned away has room for a message
+pub few : (g : Group) (m : Fields) → numbers.accepted ≡ follows_of g m → g.messages < 15
+few g m e = ltb-true g.messages 15 (all_passed (not (is_idle g.phase)) (eqb m.ci ((g.ci + 1) % 4)) (ltb g.messages 15) 8 8 9 e).1
 
 module _ (g : Group) (m : Fields) (s buffer : List ℕ) where
   -- a repeat; then by First, by the phase, by CI and by the number of messages
@@ -59,17 +65,15 @@ module _ (g : Group) (m : Fields) (s buffer : List ℕ) where
             pub begins : m.first ≡ true → joined_on (idle g.number) m s buffer ≡ join_of g m s buffer
             begins e = sym (by_number ∙ rw (ours, new, e))
 
-            module _ (later : m.first ≡ false) (w : Bool) (phase : w ≡ is_idle g.phase) where
-              pub still_idle : w ≡ true → group_after (refused 8) (idle g.number) buffer ≡ join_of g m s buffer
-              still_idle e = sym (by_number ∙ rw (ours, new, later, sym phase ∙ e))
+            module _ (later : m.first ≡ false) where
+              by_state : join_of g m s buffer ≡ refused_or (follows_of g m) (λ n. group_after (refused n) (idle g.number) buffer) (joined_on g m s buffer)
+              unfolding joined_on
+              by_state =
+                  by_number
+                  ∙ rw (ours, new, later) (in_order (not (is_idle g.phase)) (eqb m.ci ((g.ci + 1) % 4)) (ltb g.messages 15) 8 8 9 (λ n. group_after (refused n) (idle g.number) buffer) (joined_on g m s buffer))
 
-              module _ (gathers : w ≡ false) where
-                pub out_of_step : (m.ci ≡ (g.ci + 1) % 4 → ⊥) → group_after (refused 8) (idle g.number) buffer ≡ join_of g m s buffer
-                out_of_step n = sym (by_number ∙ rw (ours, new, later, sym phase ∙ gathers, ne_eqb _ _ n))
+              pub turned_away : (n : ℕ) → numbers.refused n ≡ follows_of g m → group_after (refused n) (idle g.number) buffer ≡ join_of g m s buffer
+              turned_away n e = ap (λ (p : numbers.Paper). refused_or p (λ n. group_after (refused n) (idle g.number) buffer) (joined_on g m s buffer)) e ∙ sym by_state
 
-                module _ (ci : m.ci ≡ (g.ci + 1) % 4) where
-                  pub too_many : 15 ≤ g.messages → group_after (refused 9) (idle g.number) buffer ≡ join_of g m s buffer
-                  too_many l = sym (by_number ∙ rw (ours, new, later, sym phase ∙ gathers, eq-eqb _ _ ci, le-ltb _ _ l))
-
-                  pub joins : g.messages < 15 → joined_on g m s buffer ≡ join_of g m s buffer
-                  joins l = sym (by_number ∙ rw (ours, new, later, sym phase ∙ gathers, eq-eqb _ _ ci, lt-ltb _ _ l))
+              pub joins : numbers.accepted ≡ follows_of g m → joined_on g m s buffer ≡ join_of g m s buffer
+              joins e = ap (λ (p : numbers.Paper). refused_or p (λ n. group_after (refused n) (idle g.number) buffer) (joined_on g m s buffer)) e ∙ sym by_state

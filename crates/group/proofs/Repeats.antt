@@ -24,7 +24,7 @@ use Rattle.group.specs.declared.Group.{Group}
 use Rattle.group.specs.declared.Phase.{Phase}
 use Rattle.group.specs.declared.Phase.TheVariants.{Idle, Gathering}
 use Rattle.group.proofs.Laws.{rule_room, rule_gathered, only_one, within_bounds, fits_true}
-use Rattle.group.proofs.Joining.{once_more, begins, still_idle}
+use Rattle.group.proofs.Joining.{once_more, begins, turned_away}
 use Rattle.group.proofs.Rule.{rule_number, idle_rule, gathering_rule}
 
 -- ---- what is no repeat
@@ -97,7 +97,7 @@ module _ (m : Fields) (s : List ℕ) (ri : ℕ) (small : ri ≤ 3) where
           let long : length laid ≡ length buffer = length-paste buffer g.held s (length s) (omega arith) (omega arith) in
           let again = fits_again m ri (length s) small fits in
           cond_with Copied m.last
-          (λ _ later. sym (still_idle (idle g.number) (with_ri m ri) s laid (omega arith) (idle_rule g.number hn) again ours (idle_new g.number (with_ri m ri) s laid) later true refl refl))
+          (λ _ later. sym (turned_away (idle g.number) (with_ri m ri) s laid (omega arith) (idle_rule g.number hn) again ours (idle_new g.number (with_ri m ri) s laid) later 8 refl))
           λ last. sym (once_more next (with_ri m ri) s laid (omega arith) (gathering_rule g.number g.held g.messages (length s) m.ci hn hh hm b.1 b.3) again ours (next_repeat last))
 
   -- once more a repeat

@@ -1,10 +1,11 @@
 -- Document 01, "Answer numbers": what each answer of the group state is on the paper, and the state and the buffer that it leaves. Assumes nothing.
-use Rattle.std.specs.Prelude.{ℕ, List}
+use Rattle.std.specs.Prelude.{ℕ, List, Result, Ok, Err}
 use Rattle.answers.specs.Numbers.{number_of, Paper}
+use Rattle.answers.specs.declared.Refusal.{Refusal}
 use Rattle.group.specs.declared.Group.{Group}
 use Rattle.group.specs.declared.Stepped.{Stepped}
 use Rattle.group.specs.declared.Step.{Step}
-use Rattle.group.specs.declared.Step.TheVariants.{Taken, Repeat, Whole, Refused}
+use Rattle.group.specs.declared.Step.TheVariants.{Taken, Repeat, Whole}
 
 -- "taken"; "repeat"; "group" with its length; or a number of the table
 pub data Outcome : Type 0 where
@@ -13,11 +14,11 @@ pub data Outcome : Type 0 where
   whole : ℕ → Outcome
   refused : ℕ → Outcome
 
-abbrev pub outcome : Step → Outcome
-outcome Taken = taken
-outcome Repeat = repeat
-outcome (Whole length) = whole length
-outcome (Refused refusal) = refused (number_of refusal)
+abbrev pub outcome : Result Step Refusal → Outcome
+outcome (Ok Taken) = taken
+outcome (Ok Repeat) = repeat
+outcome (Ok (Whole length)) = whole length
+outcome (Err refusal) = refused (number_of refusal)
 
 -- an answer, and the state and the buffer that it leaves
 pub record GroupAfter : Type 0 where

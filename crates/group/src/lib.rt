@@ -9,10 +9,10 @@ ghost use Rattle.group.specs.State.{new_of, join_of};
 
 mod state;
 
-use answers::{Answer, Refusal};
+use answers::Refusal;
 use channel::{Fields, LAST_NUMBER};
 
-#[derive(Clone, Copy)]
+#[derive(Clone, Copy, PartialEq, Eq)]
 pub enum Phase {
     Idle,
     Gathering,
@@ -30,26 +30,25 @@ pub struct Group {
     pub last_length: usize,
 }
 
-// The answer to being asked for a state, and the state.
+// The answer to being asked for a state, and the state: a struct, since a refusal comes with a state too, that of number 0.
 #[derive(Clone, Copy)]
 pub struct Made {
-    pub answer: Answer,
+    pub answer: Result<(), Refusal>,
     pub group: Group,
 }
 
-// `Whole` is the answer "group", with the group's length.
+// What comes of a message that is not refused; `Whole` is the answer "group", with the group's length.
 #[derive(Clone, Copy)]
 pub enum Step {
     Taken,
     Repeat,
     Whole(usize),
-    Refused(Refusal),
 }
 
-// The answer to a message, and the state that it leaves.
+// The answer to a message, and the state that it leaves: a struct, since a refusal leaves one too.
 #[derive(Clone, Copy)]
 pub struct Stepped {
-    pub answer: Step,
+    pub answer: Result<Step, Refusal>,
     pub group: Group,
 }
 
@@ -60,18 +59,19 @@ impl Group {
     pub const MOST_BYTES: usize = 3825;
 
     // A fresh state for a service number. Refused, with the fresh state of number 0: a number above 16,383 (11).
+    #[tactic(auto, unfolding(crate::specs::State::new_of))]
     pub fn new(number: u16) -> Made
         ensures { made (paper result.answer) result.group ≡ new_of number }
     {
         if LAST_NUMBER < number {
             Made {
-                answer: Answer::Refused(Refusal::OutsideRule),
-                group: state::idle(0),
+                answer: Err(Refusal::OutsideRule),
+                group: Group::idle(0),
             }
         } else {
             Made {
-                answer: Answer::Accepted,
-                group: state::idle(number),
+                answer: Ok(()),
+                group: Group::idle(number),
             }
         }
     }
@@ -81,37 +81,13 @@ impl Group {
     // or COM (13). The message last joined on, once more, is a "repeat" and changes nothing. Then by First and CI: 8 or
     // 9, with the state idle; or the data is joined on, "taken" or "group". A refusal changes no byte of the buffer, a
     // joining those of its data.
-    pub fn join(self, message: Fields, data: &[u8], buffer: &mut [u8]) -> Stepped
+    pub fn join(mut self, message: Fields, data: &[u8], buffer: &mut [u8]) -> Stepped
         ensures { told_join result buffer.new ≡ join_of self message «data».now buffer.old }
     {
-        if buffer.len() < Group::MOST_BYTES {
-            return state::refused(Refusal::TooShort, self);
+        let answer = self.take(message, data, buffer);
+        Stepped {
+            answer,
+            group: self,
         }
-        if !state::keeps_rule(self) {
-            return state::refused(Refusal::OutsideRule, self);
-        }
-        if !state::message_fits(message, data.len()) {
-            return state::refused(Refusal::OutsideRule, self);
-        }
-        if (message.number != self.number) | message.command {
-            return state::refused(Refusal::NotThisGroup, self);
-        }
-        if state::is_repeat(self, message, data, buffer) {
-            return state::repeated(self);
-        }
-        if message.first {
-            return state::join_on(state::idle(self.number), message, data, buffer);
-        }
-        let phase = self.phase;
-        if state::is_idle(phase) {
-            return state::left_idle(Refusal::OutOfStep, self);
-        }
-        if message.ci != (self.ci + 1) % 4 {
-            return state::left_idle(Refusal::OutOfStep, self);
-        }
-        if Group::MOST_MESSAGES <= self.messages {
-            return state::left_idle(Refusal::TooMany, self);
-        }
-        state::join_on(self, message, data, buffer)
     }
 }

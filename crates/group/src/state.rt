@@ -1,146 +1,145 @@
-// The group's state: its rule, and what a message of its own service number does to it.
-ghost use Rattle.std.specs.Prelude.{List, ◌≡◌, ℕ, ◌+◌, ◌<◌, ◌≤◌, length};
-ghost use Rattle.answers.specs.Numbers.{number_of};
-ghost use Rattle.group.specs.Answers.{repeat, refused, group_after, told_join};
-ghost use Rattle.group.specs.State.{idle, length_holds, keeps_rule, message_fits, is_idle, is_repeat, joined_on};
+// The group's state: its rule, and what a message makes of it.
+ghost use Rattle.std.specs.Prelude.{◌≡◌, ◌+◌, ◌<◌, ◌≤◌, length};
+ghost use Rattle.answers.specs.Numbers.{paper};
+ghost use Rattle.group.specs.Answers.{outcome, group_after};
+ghost use Rattle.group.specs.State.{idle, length_holds, keeps_rule, message_fits, is_repeat, follows_of, joined_on, join_of};
 
-use crate::{Group, Phase, Step, Stepped};
+use crate::{Group, Phase, Step};
 use answers::Refusal;
 use channel::{Fields, LAST_NUMBER, MOST_DATA};
 
-pub(crate) fn idle(number: u16) -> Group
-    ensures { result ≡ idle number }
-{
-    Group {
-        number,
-        phase: Phase::Idle,
-        held: 0,
-        messages: 0,
-        ci: 0,
-        last_length: 0,
-    }
-}
-
-pub(crate) fn refused(refusal: Refusal, group: Group) -> Stepped
-    ensures { (buffer : List ℕ) → told_join result buffer ≡ group_after (refused (number_of refusal)) group buffer }
-{
-    Stepped {
-        answer: Step::Refused(refusal),
-        group,
-    }
-}
-
-// A refusal that leaves the state idle: whatever was gathered is dropped.
-pub(crate) fn left_idle(refusal: Refusal, group: Group) -> Stepped
-    ensures { (buffer : List ℕ) → told_join result buffer ≡ group_after (refused (number_of refusal)) (idle group.number) buffer }
-{
-    refused(refusal, idle(group.number))
-}
-
-// A repeat leaves the state as it stood.
-pub(crate) fn repeated(group: Group) -> Stepped
-    ensures { (buffer : List ℕ) → told_join result buffer ≡ group_after repeat group buffer }
-{
-    let answer = Step::Repeat;
-    Stepped { answer, group }
-}
-
-// Whether the numbers are as the phase has them.
-pub(crate) fn keeps_rule(group: Group) -> bool
-    ensures { result ≡ keeps_rule group }
-{
-    let phase = group.phase;
-    let held = group.held;
-    let messages = group.messages;
-    let length = group.last_length;
-    let numbered = group.number <= LAST_NUMBER;
-    match phase {
-        Phase::Idle => numbered & ((held == 0) & (messages == 0) & (group.ci == 0) & (length == 0)),
-        Phase::Gathering => {
-            numbered
-                & ((1 <= messages)
-                    & (messages <= Group::MOST_MESSAGES)
-                    & (held <= MOST_DATA * (messages as usize))
-                    & (group.ci <= 3)
-                    & length_holds(held, messages, length))
+impl Group {
+    // The idle state of a service number, with nothing counted.
+    pub(crate) fn idle(number: u16) -> Self
+        ensures { result ≡ idle number }
+    {
+        Group {
+            number,
+            phase: Phase::Idle,
+            held: 0,
+            messages: 0,
+            ci: 0,
+            last_length: 0,
         }
     }
-}
 
-// Whether the message last joined on may have so many of the bytes held.
-fn length_holds(held: usize, messages: u8, length: usize) -> bool
-    ensures { result ≡ length_holds held messages length }
-{
-    if messages <= 1 {
-        return length == held;
+    // Takes one message: the tests in order, and its data joined on.
+    pub(crate) fn take(
+        &mut self,
+        message: Fields,
+        data: &[u8],
+        buffer: &mut [u8],
+    ) -> Result<Step, Refusal>
+        ensures { group_after (outcome result) self.new buffer.new ≡ join_of self.old message «data».now buffer.old }
+    {
+        if buffer.len() < Group::MOST_BYTES {
+            return Err(Refusal::TooShort);
+        }
+        if !self.keeps_rule() || !message_fits(message, data.len()) {
+            return Err(Refusal::OutsideRule);
+        }
+        if message.number != self.number || message.command {
+            return Err(Refusal::NotThisGroup);
+        }
+        if self.is_repeat(message, data, buffer) {
+            return Ok(Step::Repeat);
+        }
+        if message.first {
+            *self = Group::idle(self.number);
+        } else if let Err(refusal) = self.follows(message) {
+            *self = Group::idle(self.number);
+            return Err(refusal);
+        }
+        Ok(self.join_on(message, data, buffer))
     }
-    if held < length {
-        return false;
+
+    // Whether the numbers are as the phase has them.
+    #[tactic(auto, unfolding(crate::specs::State::keeps_rule))]
+    fn keeps_rule(&self) -> bool
+        ensures { result ≡ keeps_rule self.now }
+    {
+        self.number <= LAST_NUMBER
+            && match self.phase {
+                Phase::Idle => {
+                    self.held == 0 && self.messages == 0 && self.ci == 0 && self.last_length == 0
+                }
+                Phase::Gathering => {
+                    (1..=Group::MOST_MESSAGES).contains(&self.messages)
+                        && self.held <= MOST_DATA * usize::from(self.messages)
+                        && self.ci <= 3
+                        && self.length_holds()
+                }
+            }
     }
-    let before = messages - 1;
-    (length <= MOST_DATA) & (held - length <= MOST_DATA * (before as usize))
+
+    // Whether the message last joined on may have so many of the bytes held.
+    fn length_holds(&self) -> bool
+        ensures { result ≡ length_holds self.now.held self.now.messages self.now.last_length }
+    {
+        if self.messages <= 1 {
+            return self.last_length == self.held;
+        }
+        self.last_length <= MOST_DATA
+            && self.last_length <= self.held
+            && self.held - self.last_length <= MOST_DATA * usize::from(self.messages - 1)
+    }
+
+    // Whether a message is the one last joined on, once more: that was a First where it is the only one, and no Last. Its
+    // data is looked at last, since a message that steps on has another CI.
+    #[tactic(auto, unfolding(crate::specs::State::is_repeat))]
+    fn is_repeat(&self, message: Fields, data: &[u8], buffer: &[u8]) -> bool
+        requires { (self.now.last_length ≤ self.now.held) × (self.now.held ≤ length buffer.now) }
+        ensures { result ≡ is_repeat self.now message «data».now buffer.now }
+    {
+        self.phase != Phase::Idle
+            && message.ci == self.ci
+            && message.first == (self.messages == 1)
+            && !message.last
+            && text::same(data, &buffer[self.held - self.last_length..self.held])
+    }
+
+    // Whether a message that is no First goes on with what is gathered. Refused: an idle state (8), a CI that is not one
+    // more (8), a sixteenth message (9).
+    fn follows(&self, message: Fields) -> Result<(), Refusal>
+        requires { self.now.ci ≤ 3 }
+        ensures { paper result ≡ follows_of self.now message }
+    {
+        if self.phase == Phase::Idle || message.ci != (self.ci + 1) % 4 {
+            return Err(Refusal::OutOfStep);
+        }
+        if Group::MOST_MESSAGES <= self.messages {
+            return Err(Refusal::TooMany);
+        }
+        Ok(())
+    }
+
+    // Writes the data at the counted place. With Last the group is whole.
+    fn join_on(&mut self, message: Fields, data: &[u8], buffer: &mut [u8]) -> Step
+        requires { (self.old.messages < 15) × (self.old.held + length «data».now ≤ length buffer.old) }
+        ensures { group_after (outcome (Ok result)) self.new buffer.new ≡ joined_on self.old message «data».now buffer.old }
+    {
+        let end = self.held + data.len();
+        buffer[self.held..end].copy_from_slice(data);
+        if message.last {
+            *self = Group::idle(self.number);
+            return Step::Whole(end);
+        }
+        *self = Group {
+            number: self.number,
+            phase: Phase::Gathering,
+            held: end,
+            messages: self.messages + 1,
+            ci: message.ci,
+            last_length: data.len(),
+        };
+        Step::Taken
+    }
 }
 
 // Whether a message is within its widths.
-pub(crate) fn message_fits(message: Fields, length: usize) -> bool
+#[tactic(auto, unfolding(crate::specs::State::message_fits))]
+fn message_fits(message: Fields, length: usize) -> bool
     ensures { result ≡ message_fits message length }
 {
-    (message.number <= LAST_NUMBER) & (length <= MOST_DATA) & (message.ri <= 3) & (message.ci <= 3)
-}
-
-pub(crate) fn is_idle(phase: Phase) -> bool
-    ensures { result ≡ is_idle phase }
-{
-    match phase {
-        Phase::Idle => true,
-        Phase::Gathering => false,
-    }
-}
-
-// Whether a message is the one last joined on, once more: that was a First where it is the only one, and no Last. Its
-// data is looked at last, since a message that steps on has another CI.
-pub(crate) fn is_repeat(group: Group, message: Fields, data: &[u8], buffer: &[u8]) -> bool
-    requires { (group.last_length ≤ group.held) × (group.held ≤ length buffer.now) }
-    ensures { result ≡ is_repeat group message «data».now buffer.now }
-{
-    let phase = group.phase;
-    let same_fields = !is_idle(phase)
-        & (message.ci == group.ci)
-        & (message.first == (group.messages == 1))
-        & !message.last;
-    if !same_fields {
-        return false;
-    }
-    let end = group.held;
-    let start = end - group.last_length;
-    text::same(data, &buffer[start..end])
-}
-
-// Writes the data at the counted place. With Last the group is whole.
-pub(crate) fn join_on(group: Group, message: Fields, data: &[u8], buffer: &mut [u8]) -> Stepped
-    requires { (group.messages < 15) × (group.held + length «data».now ≤ length buffer.old) }
-    ensures { told_join result buffer.new ≡ joined_on group message «data».now buffer.old }
-{
-    let at = group.held;
-    let number = group.number;
-    let end = at + data.len();
-    buffer[at..end].copy_from_slice(data);
-    if message.last {
-        return Stepped {
-            answer: Step::Whole(end),
-            group: idle(number),
-        };
-    }
-    let group = Group {
-        number,
-        phase: Phase::Gathering,
-        held: end,
-        messages: group.messages + 1,
-        ci: message.ci,
-        last_length: data.len(),
-    };
-    Stepped {
-        answer: Step::Taken,
-        group,
-    }
+    message.number <= LAST_NUMBER && length <= MOST_DATA && message.ri <= 3 && message.ci <= 3
 }

@@ -22,11 +22,9 @@ const SUMMED: [u64; 6] = [
 pub fn check(fields: u64) -> u64
     ensures { result ≡ check 64 fields }
 {
-    let mut bits: u64 = 0;
-    let mut i: usize = 0;
-    while i < 6 {
-        bits = bits * 2 + parity(fields & SUMMED[i]);
-        i += 1;
+    let mut bits = 0;
+    for mask in SUMMED {
+        bits = bits * 2 + parity(fields & mask);
     }
     bits
 }
@@ -35,5 +33,5 @@ pub fn check(fields: u64) -> u64
 fn parity(x: u64) -> u64
     ensures { (result ≡ ones x % 2) × (result < 2) }
 {
-    (u64::count_ones(x) % 2) as u64
+    u64::from(x.count_ones() % 2)
 }

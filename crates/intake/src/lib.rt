@@ -3,24 +3,23 @@
 
 ghost use Rattle.logs.specs.Reader.{told_log};
 ghost use Rattle.logs.specs.Pieces.{Reached};
-ghost use Rattle.intake.specs.Intake.{Came};
+ghost use Rattle.std.specs.Prelude.{ℕ, ◌≤◌, List, Result, length, IfOk};
+ghost use Rattle.std.specs.Borrow.{MutBor};
+ghost use Rattle.answers.specs.declared.Refusal.{Refusal};
+ghost use Rattle.logs.specs.declared.LogRead.{LogRead};
+ghost use Rattle.summary.specs.Report.{report_log_of};
+ghost use Rattle.summary.specs.Export.{export_log_of};
+ghost use Rattle.summary.specs.Building.{Wrote};
+ghost use Rattle.intake.specs.Intake.{Came, Answered};
 
+use answers::Refusal;
 use logs::{LogRead, Reader};
-use std::io::{ErrorKind, Read};
+use std::io::{Eprint, ErrorKind, Read};
 
-// What came, read as a log; whether reading failed before its end, and why, where it did.
+// What came, read as a log; and why reading failed before its end, where it did.
 #[derive(Clone, Copy)]
 pub struct Intake {
     pub log: LogRead,
-    pub failed: bool,
-    pub cause: Option<ErrorKind>,
-}
-
-// A reader after what came so far, whether more may come, and why reading failed, where it did.
-#[derive(Clone, Copy)]
-struct Taken {
-    pub reader: Reader,
-    pub more: bool,
     pub cause: Option<ErrorKind>,
 }
 
@@ -30,77 +29,76 @@ pub fn read_log<R: Input>(rt: &R, room: &mut [u8]) -> Intake
     ensures { Came (told_log result.log) }
 {
     let mut input = rt.reader();
-    let taken = read_all(&mut input, room);
-    let reader = taken.reader;
+    let mut reader = logs::start();
+    let mut cause = None;
+    // A proved loop has to end, so this one turns at most as often as no run does.
+    for _ in 0..u64::MAX {
+        match input.read(room) {
+            Ok(0) => break,
+            Ok(count) => reader = take_piece(reader, &room[..count]),
+            Err(error) => {
+                cause = Some(error.kind());
+                break;
+            }
+        }
+    }
     let end = logs::end(reader);
-    let last = end.reader;
-    let answer = end.answer;
-    let counts = last.counts;
     Intake {
         log: LogRead {
-            answer,
+            answer: end.answer,
             line: end.line,
-            counts,
+            counts: end.reader.counts,
         },
-        failed: taken.cause.is_some(),
-        cause: taken.cause,
-    }
-}
-
-// A proved loop has to end: it counts its turns down from a number that no run uses up.
-fn read_all<I: Read>(input: &mut I, room: &mut [u8]) -> Taken
-    ensures { Reached result.reader }
-{
-    let mut taken = Taken {
-        reader: logs::start(),
-        more: true,
-        cause: None,
-    };
-    let mut turns = u64::MAX;
-    while turns > 0 {
-        let reader = taken.reader;
-        taken = read_some(input, reader, room);
-        if !taken.more {
-            return taken;
-        }
-        turns -= 1;
-    }
-    taken
-}
-
-// Reads once, and takes the piece that came.
-fn read_some<I: Read>(input: &mut I, reader: Reader, room: &mut [u8]) -> Taken
-    requires { Reached reader }
-    ensures { Reached result.reader }
-{
-    match input.read(room) {
-        Ok(0) => ended(reader, None),
-        Ok(count) => take_piece(reader, &room[..count]),
-        Err(error) => ended(reader, Some(error.kind())),
+        cause,
     }
 }
 
 // A function of its own, since the piece that is lent to it is known to be bytes.
-fn take_piece(reader: Reader, piece: &[u8]) -> Taken
+fn take_piece(reader: Reader, piece: &[u8]) -> Reader
     requires { Reached reader }
-    ensures { Reached result.reader }
+    ensures { Reached result }
 {
-    let fed = logs::feed(reader, piece);
-    Taken {
-        reader: fed.reader,
-        more: true,
-        cause: None,
-    }
+    logs::feed(reader, piece).reader
 }
 
-// Nothing more comes.
-fn ended(reader: Reader, cause: Option<ErrorKind>) -> Taken
-    requires { Reached reader }
-    ensures { Reached result.reader }
+// The program `report`: answers a log on standard input with what `summary::report_log` writes, which is left in the room that is lent.
+// Fails where reading does.
+pub fn report<R: Input + Print + Eprint>(rt: &R, room: &mut [u8]) -> Result<LogRead, ErrorKind>
+    ensures came { IfOk result (λ log. Came (told_log log)) }
+    ensures told { IfOk result (λ log. Answered (report_log_of log) room.new) }
 {
-    Taken {
-        reader,
-        more: false,
-        cause,
+    answer(rt, "report", room, summary::report_log)
+}
+
+// The program `sheet`: likewise with what `summary::export_log` writes.
+pub fn sheet<R: Input + Print + Eprint>(rt: &R, room: &mut [u8]) -> Result<LogRead, ErrorKind>
+    ensures came { IfOk result (λ log. Came (told_log log)) }
+    ensures told { IfOk result (λ log. Answered (export_log_of log) room.new) }
+{
+    answer(rt, "sheet", room, summary::export_log)
+}
+
+// Reads a log on standard input to its end, and writes what `write` makes of it to standard output. What fails is said on standard error.
+fn answer<R: Input + Print + Eprint, F: FnOnce(LogRead, &mut [u8]) -> Result<usize, Refusal>>(
+    rt: &R,
+    program: &str,
+    room: &mut [u8],
+    write: F,
+) -> Result<LogRead, ErrorKind>
+    requires callable { F.IsAlwaysCallable write }
+    requires in_bounds { (log : LogRead) (lent back : MutBor (List ℕ)) (n : ℕ) → F.post write log lent (Ok n) back → n ≤ length back.now }
+    ensures came { IfOk result (λ log. Came (told_log log)) }
+    ensures told { IfOk result (λ log. (old : List ℕ) × (written : Result ℕ Refusal) × Wrote F.FnOnce write log old written room.new) }
+{
+    let intake = read_log(rt, room);
+    if let Some(cause) = intake.cause {
+        let _ = eprintln!(rt; "{program}: standard input: {cause}");
+        return Err(cause);
     }
+    if let Ok(length) = write(intake.log, room) {
+        if let Err(error) = rt.write_all(&room[..length]) {
+            let _ = eprintln!(rt; "{program}: standard output: {error}");
+        }
+    }
+    Ok(intake.log)
 }

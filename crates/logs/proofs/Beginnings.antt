@@ -6,7 +6,7 @@ use mathlib.Core.List.{List, [], ◌∷◌, ◌++◌, append_assoc}
 use native.Mathlib.Omega.{arith}
 use lib.ListN.{length, length-append}
 use lib.Dec.{eqb, leb}
-use borrow.Author.Tests.{eqb-true, eqb-false, leb-true, le-leb, ne_eqb}
+use borrow.Author.Tests.{leb-true, le-leb, ne_eqb}
 use Rattle.band.specs.Band.{is_channel}
 use Rattle.band.proofs.Laws.{in_range}
 use Rattle.logs.specs.declared.Counts.{Counts}
@@ -15,10 +15,11 @@ use Rattle.logs.specs.declared.Phase.TheVariants.{Open, Refused}
 use Rattle.logs.specs.Log.{first_line, slot_line, slot_lines, log_text, all_outcomes, counted, counts_from, tuned, last, channel_up_to, is_next, judged}
 use Rattle.logs.specs.Reader.{between, fresh_reader, after_line, run, is_plain}
 use Rattle.logs.specs.Beginning.{Beginning, nothing, lines, text_of, is_good, counts_of, GoodLine}
+use Rattle.std.specs.Prelude.{Option, Some, None, IfSome}
 use Rattle.text.proofs.Laws.{same_true}
 use Rattle.logs.proofs.Lists.{by_cases}
 use Rattle.logs.proofs.Lines.{channel_line}
-use Rattle.logs.proofs.Outcomes.{next, channel_most}
+use Rattle.logs.proofs.Outcomes.{next}
 use Rattle.logs.proofs.Runs.{run_append}
 use Rattle.logs.proofs.Written.{channel_found, first_plain, slot_plain, next_is, all_snoc, counts_channel, written_run}
 
@@ -62,18 +63,15 @@ begin_run (lines n os) rest g =
 
 -- by cases: it may come next, or it may not and is judged bad
 pub next_line : (b : Beginning) (line : List ℕ) (P : Type 0) → is_good b ≡ true → (GoodLine b line → P)
-    → ((GoodLine b line → ⊥) → after_line (judged (counts_of b) line) ≡ between Refused (counts_of b) → P) → P
+    → ((GoodLine b line → ⊥) → after_line (counts_of b) (judged (counts_of b) line) ≡ between Refused (counts_of b) → P) → P
 unfolding judged
-next_line nothing line P g f bad =
-    let k = channel_up_to 204 line in
-    by_cases P (eqb k 0)
-    (λ e.
-    let z = eqb-true k 0 e in
-    bad (λ q. let r = in_range q.0 q.1 in omega (arith, r.0, z, ap (channel_up_to 204) q.2, channel_found 204 q.0 r.0 r.1 (omega arith)))
-    (rw z))
-    (λ e.
-    let z = eqb-false k 0 e in
-    f (k, rw (le-leb 1 k (omega (arith, z)), le-leb k 204 (channel_most 204 line)), channel_line 204 line z))
+next_line nothing line P g f bad = first (channel_up_to 204 line) refl (channel_line 204 line)
+  where
+    first : (o : Option ℕ) → channel_up_to 204 line ≡ o → IfSome o (λ k. (1 ≤ k) × (k ≤ 204) × (line ≡ first_line k)) → P
+    first None e h =
+        let none : GoodLine nothing line → ⊥ = λ q. let r = in_range q.0 q.1 in let found = channel_found 204 q.0 r.0 r.1 (omega arith) in let same = ap (channel_up_to 204) q.2 in cc in
+        bad none (rw e)
+    first (Some k) e h = f (k, rw (le-leb 1 k h.0, le-leb k 204 h.1), h.2)
 next_line (lines n os) line P g f bad =
     by_cases P (is_next (length os) line)
     (λ e.

@@ -3,9 +3,10 @@ pub mod Decimal
 pub mod Sound
 pub mod Lines
 pub mod Plain
+pub mod Phases
 pub mod Outcomes
 pub mod Runs
-pub mod Goes
+pub mod Takes
 pub mod Written
 pub mod Slots
 pub mod Beginnings

@@ -1,38 +1,28 @@
 -- What a line is compared with, part by part. Assumes nothing.
 use Prim.Native.Nat.{ℕ, suc, zero, ◌+◌, ◌-◌, ◌/◌, ◌%◌, ◌^◌, ◌<◌, ◌≤◌}
 use mathlib.Core.Path.{◌≡◌, refl, ap, sym, ◌∙◌}
+use Rattle.std.specs.Prelude.{Option, Some, None, IfSome}
 use Rattle.text.proofs.Laws.{other_length, same_true}
-use mathlib.Core.Bool.{Bool, true, false, ◌&&◌, and-true}
+use mathlib.Core.Bool.{Bool, true, false, ◌&&◌, and-true, and-false}
 use mathlib.Core.List.{List, [], ◌∷◌, ◌++◌, append_assoc}
 use native.Mathlib.Omega.{arith}
 use lib.ListN.{length, get_or, take, drop, length-append, take-append-drop}
 use lib.Seq.{take_all, length-take-le}
-use lib.Dec.{eqb}
-use borrow.Author.Tests.{eq-eqb}
+use lib.Dec.{eqb, ltb, leb}
+use borrow.Author.Tests.{eq-eqb, leb-true, leb-false}
 use Rattle.text.specs.Fields.{same_as}
 use Rattle.logs.specs.Decimal.{decimal}
 use Rattle.text.specs.Ascii.{tab}
-use Rattle.logs.specs.Log.{first_line, slot_line, last, channel_up_to}
-use Rattle.logs.proofs.Lists.{cond_with, same_snoc, same_none, same_append, take_last}
-use Rattle.logs.proofs.Decimal.{decimal_few, decimal_more}
+use Rattle.logs.specs.Log.{first_line, slot_line, last, channel_up_to, is_outcome, is_next}
+use Rattle.logs.proofs.Lists.{by_cases, cond_with, same_snoc, same_none, same_append, take_last}
+use Rattle.logs.proofs.Decimal.{decimal_more}
 
 -- the last digit, and the digits before it
-pub digit_here : (l : List ℕ) (i n : ℕ) → 1 ≤ i → i ≤ length l → 10 ≤ n → n < 10 ^ 20
-    → same_as (take i l) (decimal n) ≡ (same_as (take (i - 1) l) (decimal (n / 10)) && eqb (get_or l (i - 1) 0) (48 + n % 10))
-digit_here l i n h k m f =
-    rw (take_last l i h k, decimal_more n m f) (same_snoc (take (i - 1) l) (decimal (n / 10)) (get_or l (i - 1) 0) (48 + n % 10))
+pub digit_last : (front : List ℕ) (last n : ℕ) → 10 ≤ n → n < 10 ^ 20 → same_as (front ++ (last ∷ [])) (decimal n) ≡ (same_as front (decimal (n / 10)) && eqb last (48 + n % 10))
+digit_last front last n h k = rw (decimal_more n h k) (same_snoc front (decimal (n / 10)) last (48 + n % 10))
 
-pub digits_out : (l : List ℕ) (n : ℕ) → 10 ≤ n → n < 10 ^ 20 → same_as (take 0 l) (decimal n) ≡ false
-digits_out l n m f = rw (decimal_more n m f) (same_none (decimal (n / 10)) (48 + n % 10))
-
-pub one_digit : (l : List ℕ) (i n : ℕ) → i ≡ 1 → i ≤ length l → n < 10 → same_as (take i l) (decimal n) ≡ eqb (get_or l (i - 1) 0) (48 + n)
-one_digit l i n e k m =
-    let z : i - 1 ≡ 0 = omega arith in
-    rw (take_last l i (omega arith) k, decimal_few n m, z) (same_snoc [] [] (get_or l 0 0) (48 + n))
-
-pub more_digits : (l : List ℕ) (i n : ℕ) → (i ≡ 1 → ⊥) → i ≤ length l → n < 10 → same_as (take i l) (decimal n) ≡ false
-more_digits l i n h k m =
-    rw (decimal_few n m) (other_length (take i l) ((48 + n) ∷ []) (λ e. h (sym (length-take-le i l k) ∙ e)))
+pub digits_out : (n : ℕ) → 10 ≤ n → n < 10 ^ 20 → same_as [] (decimal n) ≡ false
+digits_out n h k = rw (decimal_more n h k) (same_none (decimal (n / 10)) (48 + n % 10))
 
 abbrev pub channel_tab : List ℕ
 channel_tab = 99 ∷ 104 ∷ 97 ∷ 110 ∷ 110 ∷ 101 ∷ 108 ∷ 9 ∷ []
@@ -77,7 +67,29 @@ unfolding slot_line
 slot_short l n z h =
     other_length l (decimal n ++ (tab ∷ z ∷ [])) (λ e. omega (arith, e, length-append (decimal n) (tab ∷ z ∷ [])))
 
-pub channel_here : (n : ℕ) (l : List ℕ) → 1 ≤ n → same_as l (first_line n) ≡ true → channel_up_to n l ≡ n
+pub next_parts : (slots : ℕ) (l : List ℕ) → 2 ≤ length l
+    → is_next slots l ≡ (ltb slots 999999 && is_outcome (last l) && (same_as (take (length l - 2) l) (decimal (slots + 1)) && eqb (get_or l (length l - 2) 0) tab))
+unfolding is_next
+next_parts slots l h = rw (slot_parts l (slots + 1) h)
+
+pub next_short : (slots : ℕ) (l : List ℕ) → length l < 2 → is_next slots l ≡ false
+unfolding is_next
+next_short slots l h = rw (slot_short l (slots + 1) (last l) h) (and-false _)
+
+-- a line that does is that of the channel whose number is what follows
+pub first_number : (l number : List ℕ) (n : ℕ) → same_as (take 8 l) channel_tab ≡ true → number ≡ drop 8 l → length number + 8 ≡ length l → same_as l (first_line n) ≡ same_as number (decimal n)
+first_number l number n e d h = first_parts l n (omega arith) ∙ rw (e, d)
+
+-- a line that does not begin with `channel` and a tab is the first line of no channel
+pub not_first : (l : List ℕ) (n : ℕ) → same_as (take 8 l) channel_tab ≡ false → same_as l (first_line n) ≡ false
+not_first l n e = by_cases _ (leb 8 (length l)) (λ h. first_parts l n (leb-true 8 (length l) h) ∙ rw e) (λ h. first_short l n (leb-false 8 (length l) h))
+
+pub channel_absent : (n : ℕ) (l : List ℕ) → same_as (take 8 l) channel_tab ≡ false → channel_up_to n l ≡ None
+unfolding channel_up_to
+channel_absent zero l e = refl
+channel_absent (suc n) l e = rw (not_first l (suc n) e) (channel_absent n l e)
+
+pub channel_here : (n : ℕ) (l : List ℕ) → 1 ≤ n → same_as l (first_line n) ≡ true → channel_up_to n l ≡ Some n
 unfolding channel_up_to
 channel_here (suc n) l h e = rw e
 channel_here zero l h e = absurd (omega arith)
@@ -87,15 +99,20 @@ unfolding channel_up_to
 channel_next (suc n) l h e = let z : suc n - 1 ≡ n = omega arith in rw (e, z)
 channel_next zero l h e = absurd (omega arith)
 
-pub channel_none : (n : ℕ) (l : List ℕ) → n ≤ 0 → channel_up_to n l ≡ 0
+pub channel_none : (n : ℕ) (l : List ℕ) → n < 1 → channel_up_to n l ≡ None
 unfolding channel_up_to
 channel_none zero l h = refl
 channel_none (suc n) l h = absurd (omega arith)
 
 -- the channel whose first line this is
-pub channel_line : (k : ℕ) (line : List ℕ) → (channel_up_to k line ≡ 0 → ⊥) → line ≡ first_line (channel_up_to k line)
+pub channel_line : (n : ℕ) (line : List ℕ) → IfSome (channel_up_to n line) (λ k. (1 ≤ k) × (k ≤ n) × (line ≡ first_line k))
 unfolding channel_up_to
-channel_line zero line h = absurd (h refl)
-channel_line (suc k) line h =
-    cond_with (λ (n : ℕ). (n ≡ 0 → ⊥) → line ≡ first_line n) (same_as line (first_line (suc k))) (λ e z. same_true line (first_line (suc k)) e)
-    (λ e z. channel_line k line z) h
+channel_line zero line = tt
+channel_line (suc n) line =
+    cond_with (λ (o : Option ℕ). IfSome o (λ k. (1 ≤ k) × (k ≤ suc n) × (line ≡ first_line k))) (same_as line (first_line (suc n)))
+    (λ e. (omega arith, omega arith, same_true line (first_line (suc n)) e))
+    (λ e. further (channel_up_to n line) (channel_line n line))
+  where
+    further : (o : Option ℕ) → IfSome o (λ k. (1 ≤ k) × (k ≤ n) × (line ≡ first_line k)) → IfSome o (λ k. (1 ≤ k) × (k ≤ suc n) × (line ≡ first_line k))
+    further None h = tt
+    further (Some k) h = (h.0, omega (arith, h.1), h.2)

@@ -9,6 +9,7 @@ use lib.ListN.{length, get_or, take, drop}
 use lib.Seq.{take-suc}
 use lib.Dec.{eqb}
 pub use Rattle.answers.proofs.Rules.{cond_with}
+use Rattle.logs.specs.Log.{one}
 use Rattle.text.specs.Fields.{same_as}
 
 pub by_cases {ℓ} : (P : Type ℓ) (t : Bool) → (t ≡ true → P) → (t ≡ false → P) → P
@@ -19,6 +20,10 @@ by_cases P false f g = g refl
 pub byte_small : (b : Bool) → bool_byte b ≤ 1
 byte_small true = omega arith
 byte_small false = omega arith
+
+pub byte_one : (b : Bool) → bool_byte b ≡ one b
+byte_one true = refl
+byte_one false = refl
 
 pub same_none : (a : List ℕ) (x : ℕ) → same_as [] (a ++ (x ∷ [])) ≡ false
 same_none [] x = refl

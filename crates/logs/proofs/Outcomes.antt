@@ -1,22 +1,22 @@
 -- One slot more keeps counts sound, and every good line does. Assumes nothing.
 use Prim.Native.Nat.{ℕ, suc, zero, ◌+◌, ◌-◌, ◌*◌, ◌<◌, ◌≤◌}
 use mathlib.Core.Path.{◌≡◌, refl, ap, sym, ◌∙◌, subst}
-use mathlib.Core.Bool.{true, false, cond, not, ◌&&◌, true≢false, and-eq-true_iff}
-use mathlib.Core.List.{List, [], ◌∷◌}
+use mathlib.Core.Bool.{true, false, cond, ◌&&◌, and-eq-true_iff}
+use mathlib.Core.List.{List}
 use native.Mathlib.Omega.{arith}
-use mir.Val.{bool_byte}
-use lib.ListN.{length}
 use lib.Dec.{eqb, ltb}
 use borrow.Author.Tests.{le-leb, eqb-true, ltb-true, ne_eqb}
+use Rattle.std.specs.Prelude.{Option, Some, None, IfSome}
+use Rattle.std.specs.Option.{option_map}
 use Rattle.text.specs.Fields.{same_as}
 use Rattle.band.specs.Band.{is_channel}
 use Rattle.band.proofs.Laws.{within}
 use Rattle.logs.specs.declared.Counts.{Counts}
 use Rattle.logs.specs.Log.{is_corrected, is_outcome, one, counted, tuned, is_sound, channel_up_to, first_line, slot_line, last, is_next, judged}
-use Rattle.logs.specs.Reader.{line_number, is_before}
+use Rattle.logs.specs.Reader.{is_before}
 use Rattle.logs.proofs.Lists.{cond_with, by_cases}
 use Rattle.logs.proofs.Sound.{Sound, sound, sound_is}
-use Rattle.logs.proofs.Lines.{slot_short}
+use Rattle.logs.proofs.Lines.{channel_line}
 
 -- by cases on an outcome: `0` to `8`, `n`, `c`, `-`
 pub outcome_with : (P : ℕ → Type 0) → ((bits : ℕ) → bits ≤ 8 → P (48 + bits)) → P 110 → P 99 → P 45
@@ -114,13 +114,6 @@ next n l e =
     let b = (and-eq-true_iff (ltb n 999999) (is_outcome (last l))).0 a.0 in
     record { few = ltb-true n 999999 b.0; outcome = b.1; text = a.1 }
 
-pub channel_most : (n : ℕ) (l : List ℕ) → channel_up_to n l ≤ n
-unfolding channel_up_to
-channel_most zero l = omega arith
-channel_most (suc n) l =
-    let r = channel_most n l in
-    cond_with (λ (k : ℕ). k ≤ suc n) (same_as l (first_line (suc n))) (λ e. omega arith) (λ e. omega arith)
-
 tuned_before : (n : ℕ) → n ≤ 204 → is_before (tuned n) ≡ true
 unfolding is_before is_sound
 tuned_before zero h = refl
@@ -131,17 +124,6 @@ pub before_sound : (c : Counts) → is_before c ≡ true → is_sound c ≡ true
 unfolding is_before
 before_sound c e = ((and-eq-true_iff (is_sound c) (cond (eqb c.channel 0) (eqb c.slots 0) (is_channel c.channel))).0 e).0
 
--- before the first line there are no slots
-pub before_line : (c : Counts) → is_before c ≡ true → c.slots + 1 + bool_byte (not (eqb c.channel 0)) ≡ line_number c
-unfolding is_before
-before_line c e =
-    let a = (and-eq-true_iff (is_sound c) (cond (eqb c.channel 0) (eqb c.slots 0) (is_channel c.channel))).0 e in
-    by_cases _ (eqb c.channel 0)
-    (λ z.
-    let n : eqb c.slots 0 ≡ true = rw z at a.1 in
-    rw (z, eqb-true c.slots 0 n))
-    (λ z. rw z (omega arith))
-
 counted_before : (c : Counts) (o : ℕ) → is_outcome o ≡ true → c.slots < 999999 → eqb c.channel 0 ≡ false → is_before c ≡ true
     → is_before (counted c o) ≡ true
 unfolding is_before counted
@@ -150,20 +132,15 @@ counted_before c o h k z e =
     let i : is_channel c.channel ≡ true = rw z at a.1 in
     rw (sound_is (counted c o) (counted_sound o h c k (sound c a.0)), z) i
 
--- A LINE LEAVES COUNTS BEFORE A LINE
-pub judged_before : (c : Counts) (l : List ℕ) → is_before c ≡ true → is_before (judged c l).counts ≡ true
+tuned_map : (o : Option ℕ) (l : List ℕ) → IfSome o (λ k. (1 ≤ k) × (k ≤ 204) × (l ≡ first_line k)) → IfSome (option_map tuned o) (λ d. is_before d ≡ true)
+tuned_map None l h = tt
+tuned_map (Some k) l h = tuned_before k h.1
+
+-- A GOOD LINE LEAVES COUNTS BEFORE A LINE
+pub judged_before : (c : Counts) (l : List ℕ) → is_before c ≡ true → IfSome (judged c l) (λ d. is_before d ≡ true)
 unfolding judged
 judged_before c l e =
-    by_cases (is_before (judged c l).counts ≡ true) (eqb c.channel 0)
-    (λ z. rw z (tuned_before (channel_up_to 204 l) (channel_most 204 l)))
-    (λ z. rw z
-    (cond_with (λ (d : Counts). is_before d ≡ true) (is_next c.slots l)
+    cond_with (λ (o : Option Counts). IfSome o (λ d. is_before d ≡ true)) (eqb c.channel 0) (λ z. tuned_map (channel_up_to 204 l) l (channel_line 204 l))
+    (λ z. cond_with (λ (o : Option Counts). IfSome o (λ d. is_before d ≡ true)) (is_next c.slots l)
     (λ n. let t = next c.slots l n in counted_before c (last l) t.outcome t.few z e)
-    (λ n. e)))
-
-pub next_long : (slots : ℕ) (line : List ℕ) → is_next slots line ≡ true → 1 ≤ length line
-next_long n [] e =
-    let f : same_as [] (slot_line (n + 1) 0) ≡ false = slot_short [] (n + 1) 0 (omega arith) in
-    let t : same_as [] (slot_line (n + 1) 0) ≡ true = (next n [] e).text in
-    absurd (true≢false (sym t ∙ f))
-next_long n (x ∷ l) e = omega arith
+    (λ n. tt))

@@ -1,12 +1,12 @@
 -- Laws of bytes without a line feed. Assumes nothing.
-use Prim.Native.Nat.{ℕ, suc, ◌≤◌}
+use Prim.Native.Nat.{ℕ, suc}
 use mathlib.Core.Path.{◌≡◌, refl, ap, sym, ◌∙◌, subst}
-use mathlib.Core.Bool.{Bool, true, false, not, cond, ◌&&◌, false≢true, and-eq-true_iff}
+use mathlib.Core.Bool.{Bool, true, false, not, cond, ◌&&◌, ◌||◌, false≢true, and-eq-true_iff}
 use mathlib.Core.List.{List, [], ◌∷◌, ◌++◌, append_assoc, append-nil}
-use lib.ListN.{length, get_or, take, drop}
-use lib.Seq.{length-take-le}
-use lib.Dec.{eqb, eqb-zero-suc, eqb-suc-suc}
+use lib.ListN.{get_or, take, drop}
+use lib.Dec.{eqb}
 use borrow.Author.Tests.{ne_eqb, eqb-true, eqb-false}
+use Rattle.std.specs.List.{list_any}
 use Rattle.text.specs.Find.{index_of}
 use Rattle.logs.specs.Reader.{is_plain}
 use Rattle.logs.proofs.Lists.{by_cases}
@@ -57,14 +57,26 @@ plain_cut (x ∷ a) (y ∷ b) c d p q e =
     ((λ i. h i ∷ r.0 i), r.1)
 
 -- a line feed is looked for, and none is found
-plain_found : (l : List ℕ) → is_plain l ≡ eqb (index_of 10 l) (length l)
-unfolding is_plain index_of
-plain_found [] = refl
-plain_found (x ∷ l) = go (eqb x 10) (plain_found l)
-  where
-    go : (t : Bool) → is_plain l ≡ eqb (index_of 10 l) (length l) → (not t && is_plain l) ≡ eqb (cond t 0 (suc (index_of 10 l))) (suc (length l))
-    go true e = sym (eqb-zero-suc (length l))
-    go false e = e ∙ sym (eqb-suc-suc (index_of 10 l) (length l))
+pub plain_any : (l : List ℕ) → not (list_any (λ b. eqb b 10) l) ≡ is_plain l
+unfolding is_plain
+plain_any [] = refl
+plain_any (b ∷ l) = elim (eqb b 10) as (λ t. not (t || list_any (λ b. eqb b 10) l) ≡ (not t && is_plain l)) [ true ↦ refl | false ↦ plain_any l ]
 
-pub held_plain : (l : List ℕ) (n e : ℕ) → n ≤ length l → e ≡ index_of 10 (take n l) → is_plain (take n l) ≡ eqb e n
-held_plain l n e h w = plain_found (take n l) ∙ (λ i. eqb (sym w i) (length-take-le n l h i))
+-- the bytes before the first line feed have none, and it stands behind them
+pub plain_before : (l : List ℕ) → is_plain (take (index_of 10 l) l) ≡ true
+unfolding is_plain index_of
+plain_before [] = refl
+plain_before (b ∷ l) = before (eqb b 10) refl (plain_before l)
+  where
+    before : (t : Bool) → eqb b 10 ≡ t → is_plain (take (index_of 10 l) l) ≡ true → is_plain (take (cond t 0 (suc (index_of 10 l))) (b ∷ l)) ≡ true
+    before true e h = refl
+    before false e h = rw e h
+
+pub feed_behind : (l : List ℕ) (b : ℕ) (rest : List ℕ) → drop (index_of 10 l) l ≡ b ∷ rest → b ≡ 10
+unfolding index_of
+feed_behind [] b rest f = cc
+feed_behind (x ∷ l) b rest f = behind (eqb x 10) refl (feed_behind l b rest) f
+  where
+    behind : (t : Bool) → eqb x 10 ≡ t → (drop (index_of 10 l) l ≡ b ∷ rest → b ≡ 10) → drop (cond t 0 (suc (index_of 10 l))) (x ∷ l) ≡ b ∷ rest → b ≡ 10
+    behind true e g f = sym (ap (λ (k : List ℕ). get_or k 0 0) f) ∙ eqb-true x 10 e
+    behind false e g f = g f

@@ -11,7 +11,7 @@ use lib.Pow.{are_bytes}
 use borrow.Author.Tests.{eqb-true}
 use Rattle.answers.specs.Numbers.{Paper, accepted, refused, paper}
 use Rattle.answers.specs.Rules.{unless, state_left}
-use Rattle.answers.specs.declared.Answer.TheVariants.{Accepted, Refused as Refused-answer}
+use Rattle.std.specs.Prelude.{Ok, Err}
 use Rattle.answers.specs.declared.Refusal.TheVariants.{BadLine}
 use Rattle.answers.proofs.Determined.{refused_accepted}
 use Rattle.answers.proofs.Rules.{unless_elim}
@@ -56,8 +56,8 @@ reached_run s r =
 
 -- bytes in one piece
 outcome_of : Bool → Reader → Fed
-outcome_of true s = record { answer = Accepted; line = 0; reader = s }
-outcome_of false s = record { answer = Refused-answer BadLine; line = line_number s.counts; reader = s }
+outcome_of true s = record { answer = Ok tt; line = 0; reader = s }
+outcome_of false s = record { answer = Err BadLine; line = line_number s.counts; reader = s }
 
 outcome_told : (b : Bool) (s : Reader) → told_fed (outcome_of b s) ≡ unless b (bad_line s) (fine s)
 unfolding outcome_of

@@ -9,6 +9,7 @@ use lib.ListN.{length, get_or, take, drop, set, replicate, length-append, length
 use lib.Seq.{drop-cons, take-append_seam, set-append_seam, drop-append_seam, length-take-le}
 use lib.Dec.{eqb, ltb}
 use borrow.Author.Tests.{lt-ltb, leb-true, le-leb, eqb-true, eqb-false, ltb-true, not-true}
+use Rattle.std.specs.Prelude.{Option, Some, None, IfSome}
 use Rattle.text.specs.Fields.{same_as}
 use Rattle.text.proofs.Laws.{same_refl, same_true}
 use Rattle.answers.specs.Rules.{unless}
@@ -18,7 +19,7 @@ use Rattle.logs.specs.declared.Phase.{Phase}
 use Rattle.logs.specs.declared.Phase.TheVariants.{Open, Refused, Ended}
 use Rattle.logs.specs.Log.{is_sound, judged}
 use Rattle.logs.specs.Reader.{ToldFed, between, fresh_reader, after_line, open_step, is_open, after_byte, run, bad_line, fine, after_piece, after_end, is_plain, is_held, is_holding, is_before, is_reader}
-use Rattle.logs.proofs.Lists.{cond_with, by_cases}
+use Rattle.logs.proofs.Lists.{by_cases}
 use Rattle.logs.proofs.Plain.{plain_none, plain_append, plain_one, plain_tail}
 use Rattle.logs.proofs.Outcomes.{judged_before}
 
@@ -47,7 +48,7 @@ zeros = replicate 63 0
 abbrev pub held_of : Counts → List ℕ → Reader
 held_of c l = record { phase = Open; counts = c; held = l ++ drop (length l) zeros; length = length l }
 
-same_reader : (a b : Reader) → a.phase ≡ b.phase → a.counts ≡ b.counts → a.held ≡ b.held → a.length ≡ b.length → a ≡ b
+pub same_reader : (a b : Reader) → a.phase ≡ b.phase → a.counts ≡ b.counts → a.held ≡ b.held → a.length ≡ b.length → a ≡ b
 same_reader a b p q r s = λ i. record { phase = p i; counts = q i; held = r i; length = s i }
 
 step_hold : (c : Counts) (a : List ℕ) (x : ℕ) → eqb x 10 ≡ false → length a < 63 → after_byte (held_of c a) x ≡ held_of c (a ++ (x ∷ []))
@@ -76,12 +77,12 @@ held_line : (c : Counts) (l : List ℕ) → line_of (held_of c l) ≡ l
 held_line c l = take-append_seam l (drop (length l) zeros)
 
 -- and judged at its line feed
-pub step_feed : (c : Counts) (l : List ℕ) → after_byte (held_of c l) 10 ≡ after_line (judged c l)
+pub step_feed : (c : Counts) (l : List ℕ) → after_byte (held_of c l) 10 ≡ after_line c (judged c l)
 unfolding after_byte open_step
-step_feed c l = ap (λ (k : List ℕ). after_line (judged c k)) (held_line c l)
+step_feed c l = ap (λ (k : List ℕ). after_line c (judged c k)) (held_line c l)
 
 pub line_run : (c : Counts) (l rest : List ℕ) → is_plain l ≡ true → length l ≤ 63
-    → run (between Open c) (l ++ (10 ∷ rest)) ≡ run (after_line (judged c l)) rest
+    → run (between Open c) (l ++ (10 ∷ rest)) ≡ run (after_line c (judged c l)) rest
 line_run c l rest p h =
     run_append (held_of c []) l (10 ∷ rest) ∙ ap (λ (s : Reader). run s (10 ∷ rest)) (run_hold l c [] p (omega arith))
     ∙ run_cons (held_of c l) 10 rest ∙ ap (λ (s : Reader). run s rest) (step_feed c l)
@@ -117,7 +118,7 @@ ruled_is s r =
 pub between_ruled : (p : Phase) (c : Counts) → is_holding p 0 ≡ true → is_before c ≡ true → is_reader (between p c) ≡ true
 between_ruled p c h b = ruled_is (between p c) (record { holding = h; plain = plain_none; clear = refl; before = b })
 
-held_ruled : (c : Counts) (l : List ℕ) → is_before c ≡ true → is_plain l ≡ true → length l ≤ 63 → is_reader (held_of c l) ≡ true
+pub held_ruled : (c : Counts) (l : List ℕ) → is_before c ≡ true → is_plain l ≡ true → length l ≤ 63 → is_reader (held_of c l) ≡ true
 held_ruled c l b p h =
     ruled_is (held_of c l)
     (record {
@@ -153,13 +154,12 @@ open_held s e f o =
 abbrev pub Kept : Reader → Type 0
 Kept s = (is_reader s ≡ true) × (length s.held ≡ 63)
 
-after_kept : (c : Counts) (l : List ℕ) → is_before c ≡ true → Kept (after_line (judged c l))
-after_kept c l b =
-    let k = judged_before c l b in (
-      cond_with (λ (p : Phase). is_reader (between p (judged c l).counts) ≡ true) (judged c l).good
-          (λ e. between_ruled Open (judged c l).counts refl k) (λ e. between_ruled Refused (judged c l).counts refl k),
-      refl,
-    )
+pub after_kept : (c : Counts) (l : List ℕ) → is_before c ≡ true → Kept (after_line c (judged c l))
+after_kept c l b = judged_kept (judged c l) (judged_before c l b)
+  where
+    judged_kept : (o : Option Counts) → IfSome o (λ d. is_before d ≡ true) → Kept (after_line c o)
+    judged_kept None h = (between_ruled Refused c refl b, refl)
+    judged_kept (Some d) h = (between_ruled Open d refl h, refl)
 
 held_full : (c : Counts) (l : List ℕ) → length l ≤ 63 → length (held_of c l).held ≡ 63
 held_full c l h = rw (length-append, length-drop) (omega (arith, length-replicate {A = ℕ} 63 0))

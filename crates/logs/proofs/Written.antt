@@ -13,7 +13,7 @@ use Rattle.text.proofs.Laws.{same_refl, same_true}
 use Rattle.band.specs.Band.{is_channel}
 use Rattle.band.proofs.Laws.{in_range}
 use Rattle.logs.specs.declared.Counts.{Counts}
-use Rattle.logs.specs.declared.Judged.{Judged}
+use Rattle.std.specs.Prelude.{Option, Some}
 use Rattle.logs.specs.declared.Reader.{Reader}
 use Rattle.logs.specs.declared.Phase.TheVariants.{Open}
 use Rattle.logs.specs.Decimal.{decimal}
@@ -42,11 +42,11 @@ not_last k n h e =
     absurd (true≢false (sym t ∙ e)))
 
 -- a channel's first line is that channel's
-pub channel_found : (k n : ℕ) → 1 ≤ n → n ≤ k → k ≤ 204 → channel_up_to k (first_line n) ≡ n
+pub channel_found : (k n : ℕ) → 1 ≤ n → n ≤ k → k ≤ 204 → channel_up_to k (first_line n) ≡ Some n
 channel_found zero n o h m = absurd (omega arith)
 channel_found (suc k) n o h m =
     by_cases _ (same_as (first_line n) (first_line (suc k)))
-    (λ e. channel_here (suc k) (first_line n) (omega arith) e ∙ sym (first_once n (suc k) (omega arith) m (same_true _ _ e)))
+    (λ e. channel_here (suc k) (first_line n) (omega arith) e ∙ ap (λ (j : ℕ). Some j) (sym (first_once n (suc k) (omega arith) m (same_true _ _ e))))
     (λ e.
     let z : suc k - 1 ≡ k = omega arith in
     channel_next (suc k) (first_line n) (omega arith) e ∙ ap (λ (j : ℕ). channel_up_to j (first_line n)) z
@@ -64,9 +64,9 @@ first_length : (n : ℕ) → length (first_line n) ≤ 63
 unfolding first_line
 first_length n = rw length-append (omega (arith, (decimal_length n).1))
 
-first_judged : (n : ℕ) → is_channel n ≡ true → judged (tuned 0) (first_line n) ≡ record { good = true; counts = tuned n }
+first_judged : (n : ℕ) → is_channel n ≡ true → judged (tuned 0) (first_line n) ≡ Some (tuned n)
 unfolding judged
-first_judged n e = let r = in_range n e in rw (channel_found 204 n r.0 r.1 (omega arith), ne_eqb n 0 (λ z. omega (arith, r.0)))
+first_judged n e = let r = in_range n e in rw (channel_found 204 n r.0 r.1 (omega arith))
 
 -- a slot's line
 
@@ -95,7 +95,7 @@ unfolding is_next
 next_is n o h k = rw (slot_last (n + 1) o, lt-ltb n 999999 k, h, same_refl (slot_line (n + 1) o))
 
 slot_judged : (c : Counts) (o : ℕ) → eqb c.channel 0 ≡ false → c.slots < 999999 → is_outcome o ≡ true
-    → judged c (slot_line (c.slots + 1) o) ≡ record { good = true; counts = counted c o }
+    → judged c (slot_line (c.slots + 1) o) ≡ Some (counted c o)
 unfolding judged
 slot_judged c o z h k = rw (slot_last (c.slots + 1) o, z, next_is c.slots o k h)
 
@@ -127,12 +127,12 @@ pub slot_run : (c : Counts) (o : ℕ) (rest : List ℕ) → eqb c.channel 0 ≡ 
     → run (between Open c) (slot_line (c.slots + 1) o ++ (10 ∷ rest)) ≡ run (between Open (counted c o)) rest
 slot_run c o rest z h k =
     line_run c (slot_line (c.slots + 1) o) rest (slot_plain (c.slots + 1) o k) (slot_length (c.slots + 1) o)
-    ∙ ap (λ (j : Judged). run (after_line j) rest) (slot_judged c o z h k)
+    ∙ ap (λ (j : Option Counts). run (after_line c j) rest) (slot_judged c o z h k)
 
 pub slot_before : (c : Counts) (o : ℕ) → eqb c.channel 0 ≡ false → c.slots < 999999 → is_outcome o ≡ true → is_before c ≡ true
     → is_before (counted c o) ≡ true
 slot_before c o z h k b =
-    sym (ap (λ (j : Judged). is_before j.counts) (slot_judged c o z h k)) ∙ judged_before c (slot_line (c.slots + 1) o) b
+    rw (slot_judged c o z h k) at (judged_before c (slot_line (c.slots + 1) o) b)
 
 slots_run : (os : List ℕ) (c : Counts) → eqb c.channel 0 ≡ false → all_outcomes os ≡ true → c.slots + length os ≤ 999999
     → run (between Open c) (slot_lines (c.slots + 1) os) ≡ between Open (counts_from c os)
@@ -148,5 +148,5 @@ pub written_run : (n : ℕ) (os : List ℕ) → is_channel n ≡ true → all_ou
 unfolding log_text
 written_run n os e g h =
     line_run (tuned 0) (first_line n) (slot_lines 1 os) (first_plain n) (first_length n)
-    ∙ ap (λ (j : Judged). run (after_line j) (slot_lines 1 os)) (first_judged n e)
+    ∙ ap (λ (j : Option Counts). run (after_line (tuned 0) j) (slot_lines 1 os)) (first_judged n e)
     ∙ slots_run os (tuned n) (ne_eqb n 0 (λ z. omega (arith, (in_range n e).0))) g (omega arith)

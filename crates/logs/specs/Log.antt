@@ -1,10 +1,10 @@
 -- Document 01, "The log and its report": what a line is, what a log is, and what is counted. Assumes nothing.
-use Rattle.std.specs.Prelude.{ℕ, zero, suc, ◌+◌, ◌-◌, ◌*◌, Bool, true, cond, not, ◌&&◌, ◌||◌, List, [], ◌∷◌, ◌++◌, length, get_or, ltb, leb, eqb}
+use Rattle.std.specs.Prelude.{ℕ, zero, suc, ◌+◌, ◌-◌, ◌*◌, Bool, true, cond, ◌&&◌, ◌||◌, List, [], ◌∷◌, ◌++◌, length, get_or, ltb, leb, eqb, Option, Some, None}
+use Rattle.std.specs.Option.{option_map}
 use Rattle.text.specs.Ascii.{ascii, byte, tab, line_feed}
 use Rattle.text.specs.Fields.{same_as}
 use Rattle.band.specs.Band.{last_channel, is_channel}
 use Rattle.logs.specs.declared.Counts.{Counts}
-use Rattle.logs.specs.declared.Judged.{Judged}
 use Rattle.logs.specs.Decimal.{decimal}
 
 -- the slots of a log are at most 999,999
@@ -86,19 +86,17 @@ is_counts counts = is_channel counts.channel && is_sound counts
 abbrev pub last : List ℕ → ℕ
 last line = get_or line (length line - 1) 0
 
--- the channel up to n whose first line this is, or 0
-unfoldable pub channel_up_to : ℕ → List ℕ → ℕ
-channel_up_to zero line = 0
-channel_up_to (suc n) line = cond (same_as line (first_line (suc n))) (suc n) (channel_up_to n line)
+-- the channel up to n whose first line this is
+unfoldable pub channel_up_to : ℕ → List ℕ → Option ℕ
+channel_up_to zero line = None
+channel_up_to (suc n) line = cond (same_as line (first_line (suc n))) (Some (suc n)) (channel_up_to n line)
 
 -- the line of the next slot, which is at most 999,999
 unfoldable pub is_next : ℕ → List ℕ → Bool
 is_next slots line = ltb slots greatest_slot && is_outcome (last line) && same_as line (slot_line (slots + 1) (last line))
 
--- the first line gives the channel; a bad line leaves the counts as before it
-unfoldable pub judged : Counts → List ℕ → Judged
+-- the counts with a line that may come next, none for a bad line; the first line gives the channel
+unfoldable pub judged : Counts → List ℕ → Option Counts
 judged counts line =
-    let channel = channel_up_to last_channel line in
-    let good = is_next counts.slots line in
-    cond (eqb counts.channel 0) (record { good = not (eqb channel 0); counts = tuned channel })
-    (record { good = good; counts = cond good (counted counts (last line)) counts })
+    cond (eqb counts.channel 0) (option_map tuned (channel_up_to last_channel line))
+    (cond (is_next counts.slots line) (Some (counted counts (last line))) None)

@@ -1,13 +1,12 @@
 -- Document 01, "The log and its report", and ticket 4 of document 02: a log is read byte by byte, in one piece or in several, and ended. Assumes
 -- nothing.
-use Rattle.std.specs.Prelude.{ℕ, ◌+◌, Bool, true, false, cond, not, ◌&&◌, List, [], ◌∷◌, take, drop, set, replicate, ltb, leb, eqb}
+use Rattle.std.specs.Prelude.{ℕ, ◌+◌, Bool, true, false, cond, not, ◌&&◌, List, [], ◌∷◌, take, drop, set, replicate, ltb, leb, eqb, Option, Some, None}
 use Rattle.text.specs.Ascii.{line_feed}
 use Rattle.text.specs.Fields.{same_as}
 use Rattle.answers.specs.Numbers.{Paper, accepted, refused, paper}
 use Rattle.answers.specs.Rules.{unless}
 use Rattle.band.specs.Band.{is_channel}
 use Rattle.logs.specs.declared.Counts.{Counts}
-use Rattle.logs.specs.declared.Judged.{Judged}
 use Rattle.logs.specs.declared.Phase.{Phase}
 use Rattle.logs.specs.declared.Phase.TheVariants.{Open, Refused, Ended}
 use Rattle.logs.specs.declared.Reader.{Reader}
@@ -46,8 +45,10 @@ between phase counts = record { phase = phase; counts = counts; held = replicate
 abbrev pub fresh_reader : Reader
 fresh_reader = between Open (tuned 0)
 
-abbrev pub after_line : Judged → Reader
-after_line j = between (cond j.good Open Refused) j.counts
+-- after a line, with the counts before it and those with it; a bad line leaves the counts as before it
+abbrev pub after_line : Counts → Option Counts → Reader
+after_line counts (Some more) = between Open more
+after_line counts None = between Refused counts
 
 -- a byte is held, where the line has room for it
 abbrev pub holding : Reader → ℕ → Reader
@@ -58,7 +59,7 @@ holding s b =
 
 -- a line is judged at its line feed, or at a 64th byte that is none
 unfoldable pub open_step : Reader → ℕ → Reader
-open_step s b = cond (eqb b line_feed) (after_line (judged s.counts (take s.length s.held))) (holding s b)
+open_step s b = cond (eqb b line_feed) (after_line s.counts (judged s.counts (take s.length s.held))) (holding s b)
 
 abbrev pub is_open : Phase → Bool
 is_open Open = true

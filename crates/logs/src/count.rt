@@ -1,70 +1,92 @@
 // The counts of a log, and which of them some accepted log gives.
-ghost use Rattle.std.specs.Prelude.{◌≡◌, true, cond, ◌&&◌, ◌-◌, ◌≤◌, ◌<◌, leb};
+ghost use Rattle.std.specs.Prelude.{◌≡◌, true, cond, ◌-◌, ◌≤◌, ◌<◌};
 ghost use Rattle.text.specs.Ascii.{byte};
 ghost use Rattle.logs.specs.Log.{greatest_slot, is_corrected, is_outcome, counted, tuned, is_sound, is_counts};
+ghost use Rattle.logs.specs.Reader.{is_before, line_number};
 
 use crate::{Counts, GREATEST_SLOT};
 
 // Whether some accepted log gives these counts.
+#[tactic(auto, unfolding(crate::specs::Log::is_counts))]
 pub fn is_counts(counts: Counts) -> bool
     ensures { result ≡ is_counts counts }
 {
-    band::is_channel(counts.channel as u32) & is_sound(counts)
+    band::is_channel(u32::from(counts.channel)) && counts.is_sound()
 }
 
-// Whether the counts agree with each other.
-pub(crate) fn is_sound(counts: Counts) -> bool
-    ensures { result ≡ is_sound counts }
-{
-    if counts.read < counts.clean {
-        return false;
+impl Counts {
+    // Whether the counts agree with each other.
+    #[tactic(auto, unfolding(crate::specs::Log::is_sound))]
+    fn is_sound(self) -> bool
+        ensures { result ≡ is_sound self }
+    {
+        let Some(dirty) = self.read.checked_sub(self.clean) else {
+            return false;
+        };
+        let outcomes = u64::from(self.read)
+            + u64::from(self.noword)
+            + u64::from(self.check)
+            + u64::from(self.missing);
+        self.slots <= GREATEST_SLOT
+            && u64::from(self.slots) == outcomes
+            && dirty <= self.bits
+            && u64::from(self.bits) <= 8 * u64::from(dirty)
     }
-    let dirty = counts.read - counts.clean;
-    let outcomes = counts.read as u64
-        + counts.noword as u64
-        + counts.check as u64
-        + counts.missing as u64;
-    (counts.slots <= GREATEST_SLOT)
-        & (counts.slots as u64 == outcomes)
-        & (dirty <= counts.bits)
-        & (counts.bits as u64 <= 8 * (dirty as u64))
-}
 
-// The counts of a log with its first line only.
-pub(crate) fn tuned_to(channel: u8) -> Counts
-    ensures { result ≡ tuned channel }
-{
-    Counts {
-        channel,
-        slots: 0,
-        read: 0,
-        clean: 0,
-        bits: 0,
-        noword: 0,
-        check: 0,
-        missing: 0,
+    // Whether these are the counts before some line.
+    #[tactic(auto, unfolding(crate::specs::Reader::is_before))]
+    pub(crate) fn is_before(self) -> bool
+        ensures { result ≡ is_before self }
+    {
+        if !self.is_sound() {
+            return false;
+        }
+        if self.channel == 0 {
+            self.slots == 0
+        } else {
+            band::is_channel(u32::from(self.channel))
+        }
+    }
+
+    // The counts of a log with its first line only.
+    pub(crate) fn tuned_to(channel: u8) -> Self
+        ensures { result ≡ tuned channel }
+    {
+        Counts {
+            channel,
+            ..Counts::default()
+        }
+    }
+
+    // The counts with one slot more.
+    pub(crate) fn with_slot(self, outcome: u8) -> Self
+        requires sound { is_sound self ≡ true }
+        requires room { self.slots < greatest_slot }
+        ensures { result ≡ counted self outcome }
+    {
+        Counts {
+            channel: self.channel,
+            slots: self.slots + 1,
+            read: self.read + u32::from(is_corrected(outcome)),
+            clean: self.clean + u32::from(outcome == b'0'),
+            bits: self.bits + bits_of(outcome),
+            noword: self.noword + u32::from(outcome == b'n'),
+            check: self.check + u32::from(outcome == b'c'),
+            missing: self.missing + u32::from(outcome == b'-'),
+        }
+    }
+
+    // The number of the line after these counts: the first line is before them, where there is a channel, and a line a slot.
+    pub(crate) fn next_line(self) -> u32
+        requires { self.slots ≤ greatest_slot }
+        ensures { result ≡ line_number self }
+    {
+        if self.channel == 0 { 1 } else { self.slots + 2 }
     }
 }
 
-// The counts with one slot more.
-pub(crate) fn count_one(counts: Counts, outcome: u8) -> Counts
-    requires sound { is_sound counts ≡ true }
-    requires slots_lt_greatest_slot { counts.slots < greatest_slot }
-    ensures { result ≡ counted counts outcome }
-{
-    Counts {
-        channel: counts.channel,
-        slots: counts.slots + 1,
-        read: counts.read + is_corrected(outcome) as u32,
-        clean: counts.clean + (outcome == b'0') as u32,
-        bits: counts.bits + bits_of(outcome),
-        noword: counts.noword + (outcome == b'n') as u32,
-        check: counts.check + (outcome == b'c') as u32,
-        missing: counts.missing + (outcome == b'-') as u32,
-    }
-}
-
-// `0` to `8`, `n`, `c` or `-`. No test waits for another, as no processor foresees which of them holds.
+// `0` to `8`, `n`, `c` or `-`. No test waits for another, since no processor foresees which of them holds.
+#[tactic(auto, unfolding(crate::specs::Log::is_outcome))]
 pub(crate) fn is_outcome(outcome: u8) -> bool
     ensures { result ≡ is_outcome outcome }
 {
@@ -74,14 +96,7 @@ pub(crate) fn is_outcome(outcome: u8) -> bool
 fn is_corrected(outcome: u8) -> bool
     ensures { result ≡ is_corrected outcome }
 {
-    is_digit(outcome, b'8')
-}
-
-// Whether this is a digit, up to this one.
-pub(crate) fn is_digit(digit: u8, most: u8) -> bool
-    ensures { result ≡ (leb (byte "0") digit && leb digit most) }
-{
-    (b'0' <= digit) & (digit <= most)
+    matches!(outcome, b'0'..=b'8')
 }
 
 fn bits_of(outcome: u8) -> u32
@@ -89,7 +104,8 @@ fn bits_of(outcome: u8) -> u32
     ensures upper_bound { result ≤ 8 }
 {
     if is_corrected(outcome) {
-        return (outcome - b'0') as u32;
+        u32::from(outcome - b'0')
+    } else {
+        0
     }
-    0
 }

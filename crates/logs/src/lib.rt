@@ -8,17 +8,19 @@ mod machine;
 mod rule;
 mod slot;
 
-ghost use Rattle.std.specs.Prelude.{◌≡◌, true};
-ghost use Rattle.logs.specs.Reader.{told_log, told_fed, fresh_reader, between, bad_line, no_reader, after_end, is_before, is_reader, read_of, fed_of, end_of};
+ghost use Rattle.std.specs.Prelude.{◌≡◌};
+ghost use Rattle.logs.specs.Reader.{told_log, told_fed, fresh_reader, between, fine, no_reader, read_of, fed_of, end_of};
 
-use answers::{Answer, Refusal};
+use answers::Refusal;
 pub use count::is_counts;
+use machine::Machine;
 
 // A log has at most so many slots.
 const GREATEST_SLOT: u32 = 999999;
 
-// The channel, 0 before the first line, and the counts of its slots' outcomes.
-#[derive(Clone, Copy)]
+// The channel, 0 before the first line, and the counts of its slots' outcomes. A plain number, as any counts may be handed in, those of
+// channel 0 and 255 too, and `is_counts` answers for each.
+#[derive(Clone, Copy, Default)]
 pub struct Counts {
     pub channel: u8,
     pub slots: u32,
@@ -30,10 +32,11 @@ pub struct Counts {
     pub missing: u32,
 }
 
-// What a whole log gives: the number of the refused line, 0 where there is none, and the counts of the lines before it.
+// What a whole log gives: the number of the refused line, 0 where there is none, and the counts of the lines before it. They stand beside
+// the answer, since a refusal has counts too, and since `summary::report_log` takes any line with any answer.
 #[derive(Clone, Copy)]
 pub struct LogRead {
-    pub answer: Answer,
+    pub answer: Result<(), Refusal>,
     pub line: u32,
     pub counts: Counts,
 }
@@ -41,14 +44,15 @@ pub struct LogRead {
 // The longest line, without its line feed.
 pub const LONGEST_LINE: usize = 63;
 
-#[derive(Clone, Copy)]
+#[derive(Clone, Copy, PartialEq, Eq)]
 pub enum Phase {
     Open,
     Refused,
     Ended,
 }
 
-// The state between two bytes. The first `length` bytes held are the line so far, and the others are 0.
+// The state between two bytes. The first `length` bytes held are the line so far, and the others are 0: an array with its length, since the
+// state goes by value, in fixed memory, and `feed` answers for any that is handed in.
 #[derive(Clone, Copy)]
 pub struct Reader {
     pub phase: Phase,
@@ -57,33 +61,27 @@ pub struct Reader {
     pub length: usize,
 }
 
-// What a piece of a log gives, or its end: the number of the refused line or 0, and the next state, which has the counts.
+// What a piece of a log gives, or its end: the number of the refused line or 0, and the next state, which has the counts. They stand beside
+// the answer, since a refusal leaves a state too.
 #[derive(Clone, Copy)]
 pub struct Fed {
-    pub answer: Answer,
+    pub answer: Result<(), Refusal>,
     pub line: u32,
     pub reader: Reader,
 }
 
-// Whether a line was good, and the counts after it.
-#[derive(Clone, Copy)]
-struct Judged {
-    pub good: bool,
-    pub counts: Counts,
-}
-
 // Reads a whole log. Refused: 12 at the first bad line, with its number and the counts before it.
+#[tactic(auto, unfolding(crate::specs::Reader::read_of))]
 pub fn read(log: &[u8]) -> LogRead
     ensures { told_log result ≡ read_of log.now }
 {
-    let last = after_end(machine::run(start(), log));
-    let reader = last.reader;
-    let counts = reader.counts;
-    let answer = last.answer;
+    let mut machine = Machine { reader: start() };
+    machine.take(log);
+    let last = machine.after_end();
     LogRead {
-        answer,
+        answer: last.answer,
         line: last.line,
-        counts,
+        counts: last.reader.counts,
     }
 }
 
@@ -91,75 +89,66 @@ pub fn read(log: &[u8]) -> LogRead
 pub fn start() -> Reader
     ensures { result ≡ fresh_reader }
 {
-    machine::between_lines(Phase::Open, count::tuned_to(0))
+    Reader::between_lines(Phase::Open, Counts::tuned_to(0))
 }
 
 // Takes a piece of a log, cut anywhere. Refused: 11 for a reader that has ended or is outside its rule, which stays as it is; 12 at the
 // first bad line, with its number and the counts before it, and from then on for every piece and the end.
+#[tactic(auto, unfolding(crate::specs::Reader::fed_of))]
 pub fn feed(reader: Reader, piece: &[u8]) -> Fed
     ensures { told_fed result ≡ fed_of reader piece.now }
 {
-    if !rule::is_reader(reader) {
-        return no_reader(reader);
-    }
-    let after = machine::run(reader, piece);
-    let phase = after.phase;
-    let counts = after.counts;
-    if machine::is_refused(phase) {
-        return bad_line(counts);
-    }
-    Fed {
-        answer: Answer::Accepted,
-        line: 0,
-        reader: after,
-    }
+    let Some(mut machine) = Machine::of(reader) else {
+        return Fed::outside_rule(reader);
+    };
+    machine.take(piece);
+    machine.after_piece()
 }
 
 // Takes the end of a log. Refused: 11 for a reader that has ended or is outside its rule, which stays as it is; 12 where a line was
 // bad, the first line is missing or the last has no line feed, with its number and the counts before it.
+#[tactic(auto, unfolding(crate::specs::Reader::end_of))]
 pub fn end(reader: Reader) -> Fed
     ensures { told_fed result ≡ end_of reader }
 {
-    if rule::is_reader(reader) {
-        return after_end(reader);
-    }
-    no_reader(reader)
-}
-
-fn no_reader(reader: Reader) -> Fed
-    ensures { told_fed result ≡ no_reader reader }
-{
-    Fed {
-        answer: Answer::Refused(Refusal::OutsideRule),
-        line: 0,
-        reader,
+    match Machine::of(reader) {
+        Some(machine) => machine.after_end(),
+        None => Fed::outside_rule(reader),
     }
 }
 
-fn after_end(reader: Reader) -> Fed
-    requires { is_reader reader ≡ true }
-    ensures { told_fed result ≡ after_end reader }
-{
-    let phase = reader.phase;
-    let counts = reader.counts;
-    if machine::is_refused(phase) | (counts.channel == 0) | (reader.length != 0) {
-        return bad_line(counts);
-    }
-    Fed {
-        answer: Answer::Accepted,
-        line: 0,
-        reader: machine::between_lines(Phase::Ended, counts),
+impl Reader {
+    // Between two lines: nothing is held.
+    fn between_lines(phase: Phase, counts: Counts) -> Self
+        ensures { result ≡ between phase counts }
+    {
+        Reader {
+            phase,
+            counts,
+            held: [0; LONGEST_LINE],
+            length: 0,
+        }
     }
 }
 
-// Refuses the line after these counts. Before it stand the first line, where there is a channel, and a line a slot.
-fn bad_line(counts: Counts) -> Fed
-    requires { is_before counts ≡ true }
-    ensures { told_fed result ≡ bad_line (between (Phase.Refused) counts) }
-{
-    Fed {
-        answer: Answer::Refused(Refusal::BadLine),
-        line: counts.slots + 1 + (counts.channel != 0) as u32,
-        reader: machine::between_lines(Phase::Refused, counts),
+impl Fed {
+    fn accepted(reader: Reader) -> Self
+        ensures { told_fed result ≡ fine reader }
+    {
+        Fed {
+            answer: Ok(()),
+            line: 0,
+            reader,
+        }
+    }
+
+    fn outside_rule(reader: Reader) -> Self
+        ensures { told_fed result ≡ no_reader reader }
+    {
+        Fed {
+            answer: Err(Refusal::OutsideRule),
+            line: 0,
+            reader,
+        }
     }
 }

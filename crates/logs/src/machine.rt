@@ -1,160 +1,121 @@
-// The machine over bytes. A line is recognised in two ways. Byte by byte it is held, and judged at its line feed (line.rt): so a line
-// that is cut, the first line, every bad one and one near the piece's end. For speed a good slot's line that lies whole in the piece,
-// where nine bytes or more are left of it, is read forward where it stands (slot.rt). `Goes` ties the two: either leads to the reader
-// that `run` leads to.
-ghost use Rattle.std.specs.Prelude.{◌≡◌, true, not, ◌≤◌, ◌<◌, length};
-ghost use Rattle.logs.specs.Log.{is_sound, judged};
-ghost use Rattle.logs.specs.Reader.{longest_line, between, after_line, is_open, is_before, is_reader};
-ghost use Rattle.logs.specs.Machine.{Goes};
-ghost use Rattle.logs.specs.Reader.{run as Reader·run};
+// The machine over bytes. A line is recognised in two ways. Its bytes are held, and judged at its line feed (line.rt): so a line that is
+// cut, the first line, every bad one and one near the piece's end. For speed a good slot's line that lies whole in the piece,
+// where nine bytes or more are left of it, is read forward where it stands (slot.rt). Either way leads to the reader that `run` leads to.
+ghost use Rattle.std.specs.Prelude.{◌≡◌, true, false, ◌-◌, ◌≤◌, length, MatchOption};
+ghost use Rattle.logs.specs.declared.Phase.TheVariants.{Refused};
+ghost use Rattle.logs.specs.Reader.{between, bad_line, after_piece, after_end, is_reader, told_fed, run};
 
-use crate::{Counts, LONGEST_LINE, Phase, Reader, count, line, slot};
+use crate::{Counts, Fed, LONGEST_LINE, Phase, Reader, line, slot};
+use answers::Refusal;
 
-// The reader after a part of a piece, and where the rest starts.
+// A reader that keeps its rule.
 #[derive(Clone, Copy)]
-struct Turn {
-    reader: Reader,
-    at: usize,
+pub(crate) struct Machine {
+    pub reader: Reader,
+    ghost ruled: { is_reader reader ≡ true },
 }
 
-pub(crate) fn between_lines(phase: Phase, counts: Counts) -> Reader
-    ensures { result ≡ between phase counts }
-{
-    Reader {
-        phase,
-        counts,
-        held: [0; LONGEST_LINE],
-        length: 0,
+impl Machine {
+    // None for a reader outside its rule.
+    pub(crate) fn of(reader: Reader) -> Option<Self>
+        ensures { MatchOption result (is_reader reader ≡ false) (λ m. m.reader ≡ reader) }
+    {
+        if reader.is_ruled() {
+            Some(Machine { reader })
+        } else {
+            None
+        }
     }
-}
 
-// The reader after some bytes more.
-pub(crate) fn run(reader: Reader, piece: &[u8]) -> Reader
-    requires { is_reader reader ≡ true }
-    ensures { result ≡ Reader·run reader piece.now }
-{
-    let mut now = reader;
-    let mut at = 0;
-    while at < piece.len() {
-        let turn = take_turn(now, piece, at);
-        let next = turn.reader;
-        now = next;
-        at = turn.at;
+    // Takes some bytes more.
+    pub(crate) fn take(&mut self, piece: &[u8])
+        ensures { self.new.reader ≡ run self.old.reader piece.now }
+    {
+        let mut rest = piece;
+        while !rest.is_empty() {
+            rest = self.take_slots(rest);
+            rest = self.take_line(rest);
+        }
     }
-    now
-}
 
-// Takes the good lines of slots that start here and stand whole in the piece, or else the bytes of one line. After a refusal the rest
-// of the piece plays no part.
-fn take_turn(reader: Reader, piece: &[u8], from: usize) -> Turn
-    requires ruled { is_reader reader ≡ true }
-    requires held_len { length reader.held ≡ longest_line }
-    requires from_in_bounds { from < length piece.now }
-    ensures goes { Goes piece.now reader from result.reader result.at }
-    ensures from_lt_at { from < result.at }
-{
-    let counts = reader.counts;
-    let phase = reader.phase;
-    if is_refused(phase) {
-        return Turn {
-            reader,
-            at: piece.len(),
+    // Takes the good lines of slots that stand whole at the piece's start, and answers what is left of it.
+    fn take_slots<'a>(&mut self, piece: &'a [u8]) -> &'a [u8]
+        ensures same { run self.old.reader piece.now ≡ run self.new.reader result.now }
+        ensures shorter { length result.now ≤ length piece.now }
+    {
+        if self.reader.phase != Phase::Open || self.reader.length != 0 {
+            return piece;
+        }
+        let mut counts = self.reader.counts;
+        let mut rest = piece;
+        while let Some((outcome, behind)) = slot::next_slot(counts, rest) {
+            counts = counts.with_slot(outcome);
+            rest = behind;
+        }
+        self.reader.counts = counts;
+        rest
+    }
+
+    // Takes the bytes of a line up to the one at which it is judged, or all that there are, and answers what is left. After a refusal the
+    // rest of the piece plays no part.
+    fn take_line<'a>(&mut self, piece: &'a [u8]) -> &'a [u8]
+        ensures same { run self.old.reader piece.now ≡ run self.new.reader result.now }
+        ensures shorter { length result.now ≤ length piece.now - 1 }
+    {
+        if self.reader.phase != Phase::Open {
+            return &[];
+        }
+        let start = self.reader.length;
+        let (line, rest) = piece.split_at(text::find(piece, b'\n'));
+        if LONGEST_LINE - start < line.len() {
+            self.reader = Reader::between_lines(Phase::Refused, self.reader.counts);
+            return &[];
+        }
+        let end = start + line.len();
+        self.reader.held[start..end].copy_from_slice(line);
+        self.reader.length = end;
+        let Some((_, behind)) = rest.split_first() else {
+            return rest;
         };
+        self.reader = match line::judge(self.reader.counts, &self.reader.held[..end]) {
+            Some(counts) => Reader::between_lines(Phase::Open, counts),
+            None => Reader::between_lines(Phase::Refused, self.reader.counts),
+        };
+        behind
     }
-    if reader.length == 0 {
-        let turn = whole_lines(counts, piece, from);
-        if from < turn.at {
-            return turn;
+
+    // What a piece gives, where this reader is the one after it.
+    pub(crate) fn after_piece(self) -> Fed
+        ensures { told_fed result ≡ after_piece self.reader }
+    {
+        if self.reader.phase == Phase::Open {
+            Fed::accepted(self.reader)
+        } else {
+            self.refused()
         }
     }
-    take_line(reader, piece, from)
-}
 
-pub(crate) fn is_refused(phase: Phase) -> bool
-    ensures { result ≡ not (is_open phase) }
-{
-    match phase {
-        Phase::Open => false,
-        Phase::Refused => true,
-        Phase::Ended => true,
-    }
-}
-
-// Takes the good lines of slots that stand whole in the piece from here on.
-fn whole_lines(counts: Counts, piece: &[u8], from: usize) -> Turn
-    requires before { is_before counts ≡ true }
-    requires from_in_bounds { from ≤ length piece.now }
-    ensures { Goes piece.now (between (Phase.Open) counts) from result.reader result.at }
-{
-    let mut so_far = counts;
-    let mut at = from;
-    while at < piece.len() {
-        let end = slot::slot_end(so_far, piece, at);
-        if end == piece.len() {
-            return Turn {
-                reader: between_lines(Phase::Open, so_far),
-                at,
-            };
+    // What the end gives.
+    pub(crate) fn after_end(self) -> Fed
+        ensures { told_fed result ≡ after_end self.reader }
+    {
+        if self.reader.phase != Phase::Open
+            || self.reader.counts.channel == 0
+            || self.reader.length != 0
+        {
+            return self.refused();
         }
-        so_far = count::count_one(so_far, piece[end - 1]);
-        at = end + 1;
+        Fed::accepted(Reader::between_lines(Phase::Ended, self.reader.counts))
     }
-    Turn {
-        reader: between_lines(Phase::Open, so_far),
-        at,
-    }
-}
 
-// Takes the bytes of a line up to the one at which it is judged, or all that there are.
-fn take_line(reader: Reader, piece: &[u8], from: usize) -> Turn
-    requires ruled { is_reader reader ≡ true }
-    requires open { is_open reader.phase ≡ true }
-    requires held_len { length reader.held ≡ longest_line }
-    requires from_in_bounds { from < length piece.now }
-    ensures goes { Goes piece.now reader from result.reader result.at }
-    ensures from_lt_at { from < result.at }
-{
-    let counts = reader.counts;
-    let mut held = reader.held;
-    let mut count = reader.length;
-    let mut at = from;
-    while at < piece.len() {
-        let byte = piece[at];
-        if byte == b'\n' {
-            return Turn {
-                reader: after_line(counts, &held[..count]),
-                at: at + 1,
-            };
+    // Refuses the line after the counts.
+    fn refused(self) -> Fed
+        ensures { told_fed result ≡ bad_line (between Refused self.reader.counts) }
+    {
+        Fed {
+            answer: Err(Refusal::BadLine),
+            line: self.reader.counts.next_line(),
+            reader: Reader::between_lines(Phase::Refused, self.reader.counts),
         }
-        if count == LONGEST_LINE {
-            return Turn {
-                reader: between_lines(Phase::Refused, counts),
-                at: at + 1,
-            };
-        }
-        held[count] = byte;
-        count += 1;
-        at += 1;
     }
-    Turn {
-        reader: Reader {
-            phase: Phase::Open,
-            counts,
-            held,
-            length: count,
-        },
-        at,
-    }
-}
-
-fn after_line(counts: Counts, line: &[u8]) -> Reader
-    requires { is_sound counts ≡ true }
-    ensures { result ≡ after_line (judged counts line.now) }
-{
-    let judged = line::judge(counts, line);
-    let after = judged.counts;
-    if judged.good {
-        return between_lines(Phase::Open, after);
-    }
-    between_lines(Phase::Refused, after)
 }

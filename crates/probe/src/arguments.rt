@@ -1,47 +1,125 @@
-// The arguments of a case that are numbers, each at its place: the first stands behind the first tab.
+// The arguments of a case: the fields of its line behind the command, read one after the other.
+use std::alloc::{AllocError, Global};
+use std::ops::RangeInclusive;
 
-// Stands for an argument that cannot be read. No argument is this number.
-pub const UNREADABLE: u64 = u64::MAX;
+// The most bytes of an argument, but for a log or a piece of one.
+const MOST_BYTES: usize = 32768;
 
-// More than a case has arguments. The last two are for how many bytes are given and how many are lent.
-pub const PLACES: usize = 16;
+// Why a line has no answer of a function.
+#[derive(Debug, Drop)]
+pub(crate) enum Unanswered {
+    NoCase,
+    OutOfMemory,
+}
 
-pub const GIVEN: usize = PLACES - 2;
-
-pub const LENT: usize = PLACES - 1;
-
-// Keeps a number at its place, and tells whether it is one.
-pub(crate) fn keep(numbers: &mut [u64], place: usize, number: u64) -> bool {
-    if place < numbers.len() {
-        numbers[place] = number;
-        return number != UNREADABLE;
+impl From<AllocError> for Unanswered {
+    fn from(_error: AllocError) -> Self {
+        Unanswered::OutOfMemory
     }
-    false
 }
 
-pub(crate) fn at(numbers: &[u64], place: usize) -> u64 {
-    if place < numbers.len() {
-        return numbers[place];
+#[derive(Drop)]
+pub(crate) struct Arguments<'a> {
+    pub alloc: Global,
+    line: &'a [u8],
+    // The indices of the fields that have not been read.
+    left: RangeInclusive<usize>,
+}
+
+// What one argument spells.
+pub(crate) trait Argument: Sized {
+    fn spelled(field: &[u8]) -> Option<Self>;
+}
+
+// What several arguments stand for, one after the other.
+pub(crate) trait FromArguments: Sized {
+    fn read(arguments: &mut Arguments<'_>) -> Result<Self, Unanswered>;
+}
+
+impl<'a> Arguments<'a> {
+    pub(crate) fn of(line: &'a [u8], alloc: Global) -> Self {
+        Arguments {
+            alloc,
+            line,
+            left: 1..=text::arguments(line),
+        }
     }
-    0
+
+    fn next(&mut self) -> Result<&'a [u8], Unanswered> {
+        let index = self.left.next().ok_or(Unanswered::NoCase)?;
+        Ok(text::field(self.line, index))
+    }
+
+    // A number that its type can hold.
+    pub(crate) fn number<T: TryFrom<u32>>(&mut self) -> Result<T, Unanswered>
+    where
+        T::Error: Drop,
+    {
+        let number = text::read_number(self.next()?, u32::MAX).ok_or(Unanswered::NoCase)?;
+        T::try_from(number).map_err(|_| Unanswered::NoCase)
+    }
+
+    pub(crate) fn one<T: Argument>(&mut self) -> Result<T, Unanswered> {
+        T::spelled(self.next()?).ok_or(Unanswered::NoCase)
+    }
+
+    // Bytes that are given or lent.
+    pub(crate) fn bytes(&mut self) -> Result<Vec<u8>, Unanswered> {
+        let bytes = self.log()?;
+        if MOST_BYTES < bytes.len() {
+            return Err(Unanswered::NoCase);
+        }
+        Ok(bytes)
+    }
+
+    // A log, or a piece of one, may fill its line.
+    pub(crate) fn log(&mut self) -> Result<Vec<u8>, Unanswered> {
+        let digits = self.next()?;
+        let mut bytes = vec![in self.alloc; 0; digits.len() / 2]?;
+        text::read_bytes(digits, &mut bytes).ok_or(Unanswered::NoCase)?;
+        Ok(bytes)
+    }
+
+    // A case has no argument more than its command takes.
+    pub(crate) fn end(&self) -> Result<(), Unanswered> {
+        if self.left.is_empty() {
+            Ok(())
+        } else {
+            Err(Unanswered::NoCase)
+        }
+    }
 }
 
-pub(crate) fn small(numbers: &[u64], place: usize) -> u8 {
-    (at(numbers, place) % 256) as u8
+impl Argument for bool {
+    fn spelled(field: &[u8]) -> Option<Self> {
+        match field {
+            b"0" => Some(false),
+            b"1" => Some(true),
+            _ => None,
+        }
+    }
 }
 
-pub(crate) fn medium(numbers: &[u64], place: usize) -> u16 {
-    (at(numbers, place) % 65536) as u16
+impl<const N: usize> Argument for [u8; N] {
+    fn spelled(field: &[u8]) -> Option<Self> {
+        let mut bytes = [0; N];
+        let count = text::read_bytes(field, &mut bytes)?;
+        (count == N).then_some(bytes)
+    }
 }
 
-pub(crate) fn wide(numbers: &[u64], place: usize) -> u32 {
-    (at(numbers, place) % 4294967296) as u32
+// The 16 digits of a binary64's bits. The bits of what is no number are not asked for.
+impl Argument for f64 {
+    fn spelled(field: &[u8]) -> Option<Self> {
+        Some(number_of(u64::from_be_bytes(Argument::spelled(field)?)))
+    }
 }
 
-pub(crate) fn count(numbers: &[u64], place: usize) -> usize {
-    at(numbers, place) as usize
-}
-
-pub(crate) fn flag(numbers: &[u64], place: usize) -> bool {
-    at(numbers, place) == 1
+// Without the sign, all ones in the exponent and something behind it is no number.
+fn number_of(bits: u64) -> f64 {
+    if 0x7ff0_0000_0000_0000 < bits % 0x8000_0000_0000_0000 {
+        f64::NAN
+    } else {
+        f64::from_bits(bits)
+    }
 }

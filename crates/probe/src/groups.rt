@@ -1,90 +1,106 @@
 // The groups' commands.
-use crate::{arguments, messages, put};
+use crate::arguments::{Argument, Arguments, FromArguments, Unanswered};
+use crate::shown;
+use crate::shown::{Bytes, Outcome, Shown};
+use channel::Fields;
 use group::{Group, Phase, Step};
+use std::fmt;
+use std::fmt::{Display, Formatter};
 use writer::Series;
 
-pub(crate) fn new_group(numbers: &[u64]) {
-    let made = Group::new(arguments::medium(numbers, 1));
-    let answer = made.answer;
-    let group = made.group;
-    put::answer(b"fresh", answer);
-    put_state(group);
+pub(crate) fn new_group(mut arguments: Arguments<'_>) -> Result<String, Unanswered> {
+    let number = arguments.number()?;
+    arguments.end()?;
+    let made = Group::new(number);
+    let outcome = Outcome("fresh", &made.answer);
+    Ok(format!(in arguments.alloc; "{outcome}\t{}", Shown(&made.group))?)
 }
 
-pub(crate) fn join(numbers: &[u64], data: &[u8], buffer: &mut [u8]) {
-    let group = state_in(numbers);
-    let message = messages::fields_from(numbers, 7);
-    let stepped = group.join(message, data, buffer);
-    let answer = stepped.answer;
-    let next = stepped.group;
-    put_answer(answer);
-    put_state(next);
-    put::output(buffer);
-}
-
-fn put_answer(answer: Step) {
-    match answer {
-        Step::Taken => put::word(b"taken"),
-        Step::Repeat => put::word(b"repeat"),
-        Step::Whole(length) => {
-            put::word(b"group");
-            put::count(length);
+pub(crate) fn join(mut arguments: Arguments<'_>) -> Result<String, Unanswered> {
+    let group = Group::read(&mut arguments)?;
+    let message = Fields::read(&mut arguments)?;
+    let data = arguments.bytes()?;
+    let mut buffer = arguments.bytes()?;
+    arguments.end()?;
+    let stepped = group.join(message, &data, &mut buffer);
+    let state = Shown(&stepped.group);
+    let buffer = Bytes(&buffer);
+    let line = match stepped.answer {
+        Ok(Step::Taken) => format!(in arguments.alloc; "taken\t{state}\t{buffer}"),
+        Ok(Step::Repeat) => format!(in arguments.alloc; "repeat\t{state}\t{buffer}"),
+        Ok(Step::Whole(length)) => {
+            format!(in arguments.alloc; "group\t{length}\t{state}\t{buffer}")
         }
-        Step::Refused(refusal) => put::refusal(refusal),
+        Err(refusal) => format!(in arguments.alloc; "{refusal}\t{state}\t{buffer}"),
+    };
+    Ok(line?)
+}
+
+pub(crate) fn write_group(mut arguments: Arguments<'_>) -> Result<String, Unanswered> {
+    let series = Series::read(&mut arguments)?;
+    let data = arguments.bytes()?;
+    let mut output = arguments.bytes()?;
+    arguments.end()?;
+    let told = writer::write_group(series, &data, &mut output);
+    Ok(shown::written(arguments.alloc, "written", told, &output)?)
+}
+
+impl FromArguments for Group {
+    fn read(arguments: &mut Arguments<'_>) -> Result<Self, Unanswered> {
+        Ok(Group {
+            number: arguments.number()?,
+            phase: arguments.one()?,
+            held: arguments.number()?,
+            messages: arguments.number()?,
+            ci: arguments.number()?,
+            last_length: arguments.number()?,
+        })
     }
 }
 
-// The state in the first six arguments.
-fn state_in(numbers: &[u64]) -> Group {
-    Group {
-        number: arguments::medium(numbers, 1),
-        phase: phase_of(arguments::at(numbers, 2)),
-        held: arguments::count(numbers, 3),
-        messages: arguments::small(numbers, 4),
-        ci: arguments::small(numbers, 5),
-        last_length: arguments::count(numbers, 6),
+impl Display for Shown<'_, Group> {
+    fn fmt<W: fmt::Write>(&self, f: &mut Formatter<W>) -> fmt::Result {
+        let group = self.0;
+        write!(
+            f,
+            "{}\t{}\t{}\t{}\t{}\t{}",
+            group.number,
+            Shown(&group.phase),
+            group.held,
+            group.messages,
+            group.ci,
+            group.last_length
+        )
     }
 }
 
-fn phase_of(number: u64) -> Phase {
-    if number == 0 {
-        return Phase::Idle;
-    }
-    Phase::Gathering
-}
-
-fn put_state(group: Group) {
-    let phase = group.phase;
-    put::medium(group.number);
-    put_phase(phase);
-    put::count(group.held);
-    put::small(group.messages);
-    put::small(group.ci);
-    put::count(group.last_length);
-}
-
-fn put_phase(phase: Phase) {
-    match phase {
-        Phase::Idle => put::word(b"\tidle"),
-        Phase::Gathering => put::word(b"\tgathering"),
+impl Argument for Phase {
+    fn spelled(field: &[u8]) -> Option<Self> {
+        match field {
+            b"idle" => Some(Phase::Idle),
+            b"gathering" => Some(Phase::Gathering),
+            _ => None,
+        }
     }
 }
 
-// What a group is written with, in the first five arguments.
-fn series_in(numbers: &[u64]) -> Series {
-    Series {
-        number: arguments::medium(numbers, 1),
-        ri: arguments::small(numbers, 2),
-        di: arguments::flag(numbers, 3),
-        sc: arguments::small(numbers, 4),
-        ci: arguments::small(numbers, 5),
+impl Display for Shown<'_, Phase> {
+    fn fmt<W: fmt::Write>(&self, f: &mut Formatter<W>) -> fmt::Result {
+        f.write_str(match self.0 {
+            Phase::Idle => "idle",
+            Phase::Gathering => "gathering",
+        })
     }
 }
 
-pub(crate) fn write_group(numbers: &[u64], data: &[u8], output: &mut [u8]) {
-    let wrote = writer::write_group(series_in(numbers), data, output);
-    let answer = wrote.answer;
-    put::answer(b"written", answer);
-    put::count(wrote.blocks);
-    put::output(output);
+impl FromArguments for Series {
+    fn read(arguments: &mut Arguments<'_>) -> Result<Self, Unanswered> {
+        Ok(Series {
+            number: arguments.number()?,
+            ri: arguments.number()?,
+            di: arguments.one()?,
+            sc: arguments.number()?,
+            ci: arguments.number()?,
+        })
+    }
 }

@@ -1,98 +1,117 @@
-// The long message channel's commands. The bytes of a channel stand in the room that is lent.
-ghost use Rattle.std.specs.Prelude.{◌≤◌};
+// The long message channel's commands.
+use crate::arguments::{Argument, Arguments, FromArguments, Unanswered};
+use crate::shown;
+use crate::shown::{Bytes, Shown};
+use channel::{Channel, Fields, Header, Phase, Step};
+use std::fmt;
+use std::fmt::{Display, Formatter};
 
-use crate::{arguments, put, rooms};
-use channel::{Channel, Fields, Header, MOST_GATHERED, Phase, Step};
-
-pub(crate) fn step(numbers: &[u64], information: &[u8], room: &[u8]) {
-    let channel = state_in(numbers, room);
-    let stepped = channel.step(information);
-    let answer = stepped.answer;
-    let next = stepped.channel;
-    put_answer(answer);
-    put::tab();
-    put_state(next);
+pub(crate) fn new_channel(arguments: Arguments<'_>) -> Result<String, Unanswered> {
+    arguments.end()?;
+    Ok(format!(in arguments.alloc; "{}", Shown(&Channel::new()))?)
 }
 
-// The state in the first four arguments.
-fn state_in(numbers: &[u64], room: &[u8]) -> Channel {
-    let mut bytes = [0u8; MOST_GATHERED];
-    rooms::copy(room, &mut bytes);
-    Channel {
-        bytes,
-        gathered: arguments::count(numbers, 2),
-        phase: phase_of(arguments::at(numbers, 3)),
-        expected: arguments::small(numbers, 4),
+pub(crate) fn step(mut arguments: Arguments<'_>) -> Result<String, Unanswered> {
+    let channel = Channel::read(&mut arguments)?;
+    let information = arguments.bytes()?;
+    arguments.end()?;
+    let stepped = channel.step(&information);
+    let state = Shown(&stepped.channel);
+    let line = match stepped.answer {
+        Ok(Step::Taken) => format!(in arguments.alloc; "taken\t{state}"),
+        Ok(Step::Message(header)) => {
+            format!(in arguments.alloc; "message\t{}\t{state}", Shown(&header))
+        }
+        Err(refusal) => format!(in arguments.alloc; "{refusal}\t{state}"),
+    };
+    Ok(line?)
+}
+
+pub(crate) fn write_message(mut arguments: Arguments<'_>) -> Result<String, Unanswered> {
+    let fields = Fields::read(&mut arguments)?;
+    let di = arguments.one()?;
+    let sc = arguments.number()?;
+    let data = arguments.bytes()?;
+    let mut output = arguments.bytes()?;
+    arguments.end()?;
+    let told = writer::write_message(fields, di, sc, &data, &mut output);
+    Ok(shown::written(arguments.alloc, "written", told, &output)?)
+}
+
+impl FromArguments for Channel {
+    fn read(arguments: &mut Arguments<'_>) -> Result<Self, Unanswered> {
+        Ok(Channel {
+            bytes: arguments.one()?,
+            gathered: arguments.number()?,
+            phase: arguments.one()?,
+            expected: arguments.number()?,
+        })
     }
 }
 
-fn phase_of(number: u64) -> Phase {
-    match number {
-        0 => Phase::Waiting,
-        1 => Phase::Ready,
-        _ => Phase::Gathering,
+impl Display for Shown<'_, Channel> {
+    fn fmt<W: fmt::Write>(&self, f: &mut Formatter<W>) -> fmt::Result {
+        let channel = self.0;
+        write!(
+            f,
+            "{}\t{}\t{}\t{}",
+            Bytes(&channel.bytes),
+            channel.gathered,
+            Shown(&channel.phase),
+            channel.expected
+        )
     }
 }
 
-fn put_answer(answer: Step) {
-    match answer {
-        Step::Taken => put::word(b"taken"),
-        Step::Message(header) => put_header(header),
-        Step::Refused(refusal) => put::refusal(refusal),
+impl Argument for Phase {
+    fn spelled(field: &[u8]) -> Option<Self> {
+        match field {
+            b"waiting" => Some(Phase::Waiting),
+            b"ready" => Some(Phase::Ready),
+            b"gathering" => Some(Phase::Gathering),
+            _ => None,
+        }
     }
 }
 
-fn put_header(header: Header) {
-    put::word(b"message");
-    put::small(header.ri);
-    put::small(header.ci);
-    put::flag(header.first);
-    put::flag(header.last);
-    put::flag(header.ext);
-    put::medium(header.number);
-    put::flag(header.command);
-    put::count(header.length);
-    put::count(header.size);
-}
-
-pub(crate) fn put_state(channel: Channel) {
-    let bytes = channel.bytes;
-    let phase = channel.phase;
-    put::bytes(&bytes);
-    put::count(channel.gathered);
-    put_phase(phase);
-    put::small(channel.expected);
-}
-
-fn put_phase(phase: Phase) {
-    match phase {
-        Phase::Waiting => put::word(b"\twaiting"),
-        Phase::Ready => put::word(b"\tready"),
-        Phase::Gathering => put::word(b"\tgathering"),
+impl Display for Shown<'_, Phase> {
+    fn fmt<W: fmt::Write>(&self, f: &mut Formatter<W>) -> fmt::Result {
+        f.write_str(match self.0 {
+            Phase::Waiting => "waiting",
+            Phase::Ready => "ready",
+            Phase::Gathering => "gathering",
+        })
     }
 }
 
-// The fields of a message in six arguments from a place on: RI, CI, First, Last, number and COM.
-pub(crate) fn fields_from(numbers: &[u64], first: usize) -> Fields
-    requires { first ≤ 7 }
-{
-    Fields {
-        ri: arguments::small(numbers, first),
-        ci: arguments::small(numbers, first + 1),
-        first: arguments::flag(numbers, first + 2),
-        last: arguments::flag(numbers, first + 3),
-        number: arguments::medium(numbers, first + 4),
-        command: arguments::flag(numbers, first + 5),
+impl FromArguments for Fields {
+    fn read(arguments: &mut Arguments<'_>) -> Result<Self, Unanswered> {
+        Ok(Fields {
+            ri: arguments.number()?,
+            ci: arguments.number()?,
+            first: arguments.one()?,
+            last: arguments.one()?,
+            number: arguments.number()?,
+            command: arguments.one()?,
+        })
     }
 }
 
-pub(crate) fn write_message(numbers: &[u64], data: &[u8], output: &mut [u8]) {
-    let fields = fields_from(numbers, 1);
-    let di = arguments::flag(numbers, 7);
-    let sc = arguments::small(numbers, 8);
-    let wrote = writer::write_message(fields, di, sc, data, output);
-    let answer = wrote.answer;
-    put::answer(b"written", answer);
-    put::count(wrote.blocks);
-    put::output(output);
+impl Display for Shown<'_, Header> {
+    fn fmt<W: fmt::Write>(&self, f: &mut Formatter<W>) -> fmt::Result {
+        let header = self.0;
+        write!(
+            f,
+            "{}\t{}\t{}\t{}\t{}\t{}\t{}\t{}\t{}",
+            header.ri,
+            header.ci,
+            Shown(&header.first),
+            Shown(&header.last),
+            Shown(&header.ext),
+            header.number,
+            Shown(&header.command),
+            header.length,
+            header.size
+        )
+    }
 }

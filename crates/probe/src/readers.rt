@@ -1,62 +1,82 @@
-// The commands of a log in pieces. The bytes that a reader holds stand in the room that is lent.
-use crate::{arguments, put, rooms, surveys};
-use logs::{Fed, LONGEST_LINE, Phase, Reader};
+// The commands of a log in pieces.
+use crate::arguments::{Argument, Arguments, FromArguments, Unanswered};
+use crate::shown::{Bytes, Outcome, Shown};
+use logs::{Phase, Reader};
+use std::fmt;
+use std::fmt::{Display, Formatter};
 
-pub(crate) fn start() {
-    put_reader(logs::start());
+pub(crate) fn start(arguments: Arguments<'_>) -> Result<String, Unanswered> {
+    arguments.end()?;
+    Ok(format!(in arguments.alloc; "{}", Shown(&logs::start()))?)
 }
 
-pub(crate) fn feed(numbers: &[u64], piece: &[u8], room: &[u8]) {
-    put_fed(b"taken", logs::feed(reader_in(numbers, room), piece));
+pub(crate) fn feed(mut arguments: Arguments<'_>) -> Result<String, Unanswered> {
+    let reader = Reader::read(&mut arguments)?;
+    let piece = arguments.log()?;
+    arguments.end()?;
+    let fed = logs::feed(reader, &piece);
+    Ok(format!(in arguments.alloc;
+        "{}\t{}\t{}",
+        Outcome("taken", &fed.answer),
+        fed.line,
+        Shown(&fed.reader)
+    )?)
 }
 
-pub(crate) fn end(numbers: &[u64], room: &[u8]) {
-    put_fed(b"log", logs::end(reader_in(numbers, room)));
+pub(crate) fn end(mut arguments: Arguments<'_>) -> Result<String, Unanswered> {
+    let reader = Reader::read(&mut arguments)?;
+    arguments.end()?;
+    let fed = logs::end(reader);
+    Ok(format!(in arguments.alloc;
+        "{}\t{}\t{}",
+        Outcome("log", &fed.answer),
+        fed.line,
+        Shown(&fed.reader)
+    )?)
 }
 
-fn put_fed(success: &[u8], fed: Fed) {
-    let answer = fed.answer;
-    let reader = fed.reader;
-    put::answer(success, answer);
-    put::wide(fed.line);
-    put::tab();
-    put_reader(reader);
-}
-
-// The reader in the first eleven arguments.
-fn reader_in(numbers: &[u64], room: &[u8]) -> Reader {
-    let mut held = [0u8; LONGEST_LINE];
-    rooms::copy(room, &mut held);
-    Reader {
-        phase: phase_of(arguments::at(numbers, 1)),
-        counts: surveys::counts_from(numbers, 2),
-        held,
-        length: arguments::count(numbers, 11),
+impl FromArguments for Reader {
+    fn read(arguments: &mut Arguments<'_>) -> Result<Self, Unanswered> {
+        Ok(Reader {
+            phase: arguments.one()?,
+            counts: FromArguments::read(arguments)?,
+            held: arguments.one()?,
+            length: arguments.number()?,
+        })
     }
 }
 
-fn phase_of(number: u64) -> Phase {
-    match number {
-        0 => Phase::Open,
-        1 => Phase::Refused,
-        _ => Phase::Ended,
+impl Display for Shown<'_, Reader> {
+    fn fmt<W: fmt::Write>(&self, f: &mut Formatter<W>) -> fmt::Result {
+        let reader = self.0;
+        write!(
+            f,
+            "{}\t{}\t{}\t{}",
+            Shown(&reader.phase),
+            Shown(&reader.counts),
+            Bytes(&reader.held),
+            reader.length
+        )
     }
 }
 
-fn put_reader(reader: Reader) {
-    let phase = reader.phase;
-    let counts = reader.counts;
-    let held = reader.held;
-    put_phase(phase);
-    surveys::put_counts(counts);
-    put::output(&held);
-    put::count(reader.length);
+impl Argument for Phase {
+    fn spelled(field: &[u8]) -> Option<Self> {
+        match field {
+            b"open" => Some(Phase::Open),
+            b"refused" => Some(Phase::Refused),
+            b"ended" => Some(Phase::Ended),
+            _ => None,
+        }
+    }
 }
 
-fn put_phase(phase: Phase) {
-    match phase {
-        Phase::Open => put::word(b"open"),
-        Phase::Refused => put::word(b"refused"),
-        Phase::Ended => put::word(b"ended"),
+impl Display for Shown<'_, Phase> {
+    fn fmt<W: fmt::Write>(&self, f: &mut Formatter<W>) -> fmt::Result {
+        f.write_str(match self.0 {
+            Phase::Open => "open",
+            Phase::Refused => "refused",
+            Phase::Ended => "ended",
+        })
     }
 }

@@ -1,99 +1,131 @@
 // The survey's commands.
-ghost use Rattle.std.specs.Prelude.{◌≤◌};
-
-use crate::{arguments, floats, put};
-use band::Kilohertz;
+use crate::arguments::{Arguments, FromArguments, Unanswered};
+use crate::shown;
+use crate::shown::{Outcome, Shown};
+use band::{Channel, Kilohertz};
 use logs::Counts;
+use std::fmt;
+use std::fmt::{Display, Formatter};
 use summary::Summary;
 
-pub(crate) fn khz(numbers: &[u64]) {
-    let numbered = band::numbered(arguments::wide(numbers, 1));
-    let channel = numbered.channel;
-    let told = band::to_kilohertz(channel);
-    let answer = told.answer;
-    let kilohertz = told.kilohertz;
-    put::answer(b"khz", answer);
-    put::wide(kilohertz.0);
+// What is told of counts that have no summary.
+const NONE: Summary = Summary {
+    mean_exists: false,
+    mean: 0.0,
+    missing_exists: false,
+    missing: 0.0,
+};
+
+pub(crate) fn khz(mut arguments: Arguments<'_>) -> Result<String, Unanswered> {
+    let number = arguments.number::<u16>()?;
+    arguments.end()?;
+    let told = Channel::try_from(u32::from(number)).and_then(Kilohertz::try_from);
+    let outcome = Outcome("khz", &told);
+    let kilohertz = told.map_or(0, |kilohertz| kilohertz.0);
+    Ok(format!(in arguments.alloc; "{outcome}\t{kilohertz}")?)
 }
 
-pub(crate) fn channel(numbers: &[u64]) {
-    let told = band::to_channel(Kilohertz(arguments::wide(numbers, 1)));
-    let answer = told.answer;
-    let channel = told.channel;
-    put::answer(b"channel", answer);
-    put::small(channel.0);
+pub(crate) fn channel(mut arguments: Arguments<'_>) -> Result<String, Unanswered> {
+    let kilohertz = Kilohertz(arguments.number()?);
+    arguments.end()?;
+    let told = Channel::try_from(kilohertz);
+    let outcome = Outcome("channel", &told);
+    let channel = told.map_or(0, |channel| channel.0);
+    Ok(format!(in arguments.alloc; "{outcome}\t{channel}")?)
 }
 
-pub(crate) fn read_log(log: &[u8]) {
-    let read = logs::read(log);
-    let answer = read.answer;
-    let counts = read.counts;
-    put::answer(b"log", answer);
-    put::wide(read.line);
-    put_counts(counts);
+pub(crate) fn read_log(mut arguments: Arguments<'_>) -> Result<String, Unanswered> {
+    let log = arguments.log()?;
+    arguments.end()?;
+    let read = logs::read(&log);
+    Ok(format!(in arguments.alloc;
+        "{}\t{}\t{}",
+        Outcome("log", &read.answer),
+        read.line,
+        Shown(&read.counts)
+    )?)
 }
 
-pub(crate) fn put_counts(counts: Counts) {
-    put::small(counts.channel);
-    put::wide(counts.slots);
-    put::wide(counts.read);
-    put::wide(counts.clean);
-    put::wide(counts.bits);
-    put::wide(counts.noword);
-    put::wide(counts.check);
-    put::wide(counts.missing);
+pub(crate) fn summarise(mut arguments: Arguments<'_>) -> Result<String, Unanswered> {
+    let counts = Counts::read(&mut arguments)?;
+    arguments.end()?;
+    let told = summary::summarise(counts);
+    let summary = told.unwrap_or(NONE);
+    let outcome = Outcome("summary", &told);
+    Ok(format!(in arguments.alloc; "{outcome}\t{}", Shown(&summary))?)
 }
 
-// The counts in eight arguments from a place on.
-pub(crate) fn counts_from(numbers: &[u64], first: usize) -> Counts
-    requires { first ≤ 2 }
-{
-    Counts {
-        channel: arguments::small(numbers, first),
-        slots: arguments::wide(numbers, first + 1),
-        read: arguments::wide(numbers, first + 2),
-        clean: arguments::wide(numbers, first + 3),
-        bits: arguments::wide(numbers, first + 4),
-        noword: arguments::wide(numbers, first + 5),
-        check: arguments::wide(numbers, first + 6),
-        missing: arguments::wide(numbers, first + 7),
+pub(crate) fn report(mut arguments: Arguments<'_>) -> Result<String, Unanswered> {
+    let counts = Counts::read(&mut arguments)?;
+    let mut output = arguments.bytes()?;
+    arguments.end()?;
+    let told = summary::report(counts, &mut output);
+    Ok(shown::written(arguments.alloc, "report", told, &output)?)
+}
+
+pub(crate) fn export(mut arguments: Arguments<'_>) -> Result<String, Unanswered> {
+    let counts = Counts::read(&mut arguments)?;
+    let summary = Summary::read(&mut arguments)?;
+    let mut output = arguments.bytes()?;
+    arguments.end()?;
+    let told = summary::export(counts, summary, &mut output);
+    Ok(shown::written(arguments.alloc, "row", told, &output)?)
+}
+
+impl FromArguments for Counts {
+    fn read(arguments: &mut Arguments<'_>) -> Result<Self, Unanswered> {
+        Ok(Counts {
+            channel: arguments.number()?,
+            slots: arguments.number()?,
+            read: arguments.number()?,
+            clean: arguments.number()?,
+            bits: arguments.number()?,
+            noword: arguments.number()?,
+            check: arguments.number()?,
+            missing: arguments.number()?,
+        })
     }
 }
 
-pub(crate) fn summarise(numbers: &[u64]) {
-    let summarised = summary::summarise(counts_from(numbers, 1));
-    let answer = summarised.answer;
-    let record = summarised.summary;
-    put::answer(b"summary", answer);
-    put::flag(record.mean_exists);
-    put::float(record.mean);
-    put::flag(record.missing_exists);
-    put::float(record.missing);
-}
-
-pub(crate) fn report(numbers: &[u64], output: &mut [u8]) {
-    let written = summary::report(counts_from(numbers, 1), output);
-    let answer = written.answer;
-    put::answer(b"report", answer);
-    put::count(written.length);
-    put::output(output);
-}
-
-// The summary in the four arguments behind the counts.
-fn summary_in(numbers: &[u64]) -> Summary {
-    Summary {
-        mean_exists: arguments::flag(numbers, 9),
-        mean: floats::of_bits(arguments::at(numbers, 10)),
-        missing_exists: arguments::flag(numbers, 11),
-        missing: floats::of_bits(arguments::at(numbers, 12)),
+impl Display for Shown<'_, Counts> {
+    fn fmt<W: fmt::Write>(&self, f: &mut Formatter<W>) -> fmt::Result {
+        let counts = self.0;
+        write!(
+            f,
+            "{}\t{}\t{}\t{}\t{}\t{}\t{}\t{}",
+            counts.channel,
+            counts.slots,
+            counts.read,
+            counts.clean,
+            counts.bits,
+            counts.noword,
+            counts.check,
+            counts.missing
+        )
     }
 }
 
-pub(crate) fn export(numbers: &[u64], output: &mut [u8]) {
-    let summary = summary_in(numbers);
-    let written = summary::export(counts_from(numbers, 1), summary, output);
-    let answer = written.answer;
-    put::answer(b"row", answer);
-    put::count(written.length);
-    put::output(output);
+impl FromArguments for Summary {
+    fn read(arguments: &mut Arguments<'_>) -> Result<Self, Unanswered> {
+        Ok(Summary {
+            mean_exists: arguments.one()?,
+            mean: arguments.one()?,
+            missing_exists: arguments.one()?,
+            missing: arguments.one()?,
+        })
+    }
+}
+
+impl Display for Shown<'_, Summary> {
+    fn fmt<W: fmt::Write>(&self, f: &mut Formatter<W>) -> fmt::Result {
+        let summary = self.0;
+        write!(
+            f,
+            "{}\t{}\t{}\t{}",
+            Shown(&summary.mean_exists),
+            Shown(&summary.mean),
+            Shown(&summary.missing_exists),
+            Shown(&summary.missing)
+        )
+    }
 }

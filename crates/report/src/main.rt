@@ -3,14 +3,6 @@
 
 fn main(rt: HostRuntime) {
     let mut room = io::large_buffer();
-    let intake = intake::read_log(&rt, &mut room);
-    if let Some(cause) = intake.cause {
-        let _ = eprintln!(rt; "report: standard input: {cause}");
-        return;
-    }
-    let written = summary::report_log(intake.log, &mut room);
-    let length = written.length;
-    if let Err(error) = rt.write_all(&room[..length]) {
-        let _ = eprintln!(rt; "report: standard output: {error}");
-    }
+    // A failure was said on standard error.
+    let _ = intake::report(&rt, &mut room);
 }

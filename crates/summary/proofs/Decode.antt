@@ -1,9 +1,9 @@
 -- What the bits of a number that a cell shows say. Assumes nothing.
 use Prim.Native.Nat.{ℕ, suc, zero, ◌+◌, ◌-◌, ◌*◌, ◌/◌, ◌%◌, ◌^◌, ◌<◌, ◌≤◌}
 use mathlib.Core.Path.{◌≡◌, refl, ap, sym, ◌∙◌, subst}
-use mathlib.Core.Logic.{◌⊎◌, inl, inr}
+use mathlib.Core.Logic.{inl, inr}
 use mathlib.Core.Bool.{Bool, true, false, cond}
-use native.Mathlib.Nat.{mul_comm, mul_assoc, mul_right_comm, mul-le-mul_left, mul-le-mul_right, mul-lt-mul_of_pos_right, le_of_mul-le-mul_right, lt_of_lt_of_le, lt_of_le_of_lt, le_trans, le_of_eq, lt_irrefl, not-le_of_lt, mul-pos, zero-mul}
+use native.Mathlib.Nat.{eq-zero-or-pos, mul_comm, mul_assoc, mul_right_comm, mul-le-mul_left, mul-le-mul_right, mul-lt-mul_of_pos_right, le_of_mul-le-mul_right, lt_of_lt_of_le, lt_of_le_of_lt, le_trans, le_of_eq, lt_irrefl, not-le_of_lt, mul-pos, zero-mul}
 use native.Mathlib.Omega.{arith}
 use lib.Dec.{leb, eqb}
 use lib.Pow.{pow-add, pow_pos, pow_mono, pow-lt}
@@ -63,10 +63,6 @@ values nan s a c v w = absurd v
 values (inf t) s a c v w = absurd v
 values (fin t m e) s a c v w = (sym w.0 ∙ v.0, w.1)
 
-zero_or_more : (n : ℕ) → (n ≡ 0) ⊎ (0 < n)
-zero_or_more zero = inl refl
-zero_or_more (suc n) = inr (omega arith)
-
 none : (m f d : ℕ) → 0 < m → 0 < d → 0 ≡ m * 2 ^ f * d → ⊥
 none m f d M D e = lt_irrefl 0 (subst (λ (k : ℕ). 0 < k) (sym e) (mul-pos (mul-pos M (pow_pos f)) D))
 
@@ -76,7 +72,7 @@ some x m f l k M e h =
     elim k.least [
       | inl z ↦ absurd (none m f (den x) M (den_pos x) (sym (zero-mul (2 ^ l)) ∙ ap (λ (n : ℕ). n * 2 ^ l) (sym z) ∙ e))
       | inr g ↦
-          elim (zero_or_more (num x)) [
+          elim (eq-zero-or-pos (num x)) [
             | inl z ↦ absurd (none m f (den x) M (den_pos x) (sym (zero-mul (2 ^ l)) ∙ ap (λ (n : ℕ). n * 2 ^ l) (sym z) ∙ e))
             | inr n ↦ exponent_least (num x) (den x) m f l n e g h
           ]
@@ -92,7 +88,7 @@ field_none x b s m z p q e =
     let t = b % 2 ^ 52 in
     let h : t < 2 ^ 53 = omega arith in
     let w = values x s (t * 2 ^ 0) (2 ^ 1074) m.value (subst (λ (y : Float). HasValue y s (t * 2 ^ 0) (2 ^ 1074)) (sym e) (odd_sign 53 s t 0 1074)) in
-    elim (zero_or_more t) [
+    elim (eq-zero-or-pos t) [
       | inl y ↦ z (nothing b y q (leb-false (2 ^ 63) b (p ∙ w.0)))
       | inr y ↦ too_small (some x t 0 1074 m y w.1 h)
     ]

@@ -32,7 +32,8 @@ use Rattle.summary.specs.Export.{decimals, expansion, cell, is_summary, exported
 use Rattle.summary.specs.Cells.{whole_in, decimals_in, digits_in, places_in, is_digits, is_whole, is_fraction, is_decimal_text, Shows, IsCell, Cells}
 use Rattle.summary.specs.Building.{Measured}
 use Rattle.summary.proofs.Expansion.{decimals_done, decimals_next}
-use Rattle.summary.proofs.Exactly.{small_zero, less, left_over, cross}
+use Rattle.summary.proofs.Exactly.{small_zero, less, left_over}
+use Rattle.summary.proofs.Units.{scaled_units}
 use Rattle.summary.proofs.Same.{bits_same, mean_given, missing_given, summary_given}
 use Rattle.summary.proofs.Decode.{field_of, digits_of, Decoded, decoded}
 
@@ -218,13 +219,12 @@ own_zero x m e =
 
 own_some : (x : Float) (b : ℕ) → Measured x → Decoded x b → Own x
 own_some x b m d =
-    let f : field_of b - 1 ≡ field_of b - 1003 + 1002 = omega (arith, d.least) in
     let s : digits_of b * 2 ^ (field_of b - 1) < 2 ^ (53 + (field_of b - 1)) = shl_lt 53 (field_of b - 1) (omega arith) in
     let n : 53 + (field_of b - 1) ≤ 1074 + suc 1023 = omega (arith, d.most) in
     let v = round_exact binary64 false (num x) (den x) (digits_of b) (field_of b - 1) (den_pos x) (omega arith) (lt_of_lt_of_le s (pow_mono n)) d.value in
     record {
       parts = digits_of b * 2 ^ (field_of b - 1003);
-      whole = sym (cross (num x) (den x) (digits_of b) (field_of b - 1003) 72 1002 (d.value ∙ ap (λ (j : ℕ). digits_of b * 2 ^ j * den x) f));
+      whole = sym (scaled_units x b d);
       back = value_once (round binary64 false (num x) (den x)) x (num x) (den x) (den_pos x) (round-fits binary64 false (num x) (den x)) m.holds v m.value;
     }
 

@@ -1,18 +1,16 @@
--- The text of a number that a cell shows, from its bits, and how long it is. Assumes nothing.
+-- How long the text of a number is that a cell shows. Assumes nothing.
 use Prim.Native.Nat.{ℕ, suc, zero, ◌+◌, ◌-◌, ◌*◌, ◌/◌, ◌%◌, ◌^◌, ◌<◌, ◌≤◌}
 use mathlib.Core.Path.{◌≡◌, refl, ap, sym, ◌∙◌, subst}
 use mathlib.Core.Bool.{Bool, true, false}
-use mathlib.Core.List.{List, [], ◌∷◌, ◌++◌}
-use native.Mathlib.Nat.{mul_comm, mul_assoc, mul_right_comm, add-mul, mul-sub, zero-mul, suc-mul, pow-suc, mod-lt, div-add-mod', eq_of_mul-eq-mul_right}
+use mathlib.Core.List.{List, [], ◌++◌}
+use native.Mathlib.Nat.{mul_comm, mul_assoc, mul_right_comm, add-mul, mul-sub, zero-mul, suc-mul, pow-suc, mod-lt, div-add-mod'}
 use native.Mathlib.Omega.{arith}
 use lib.Dec.{eqb}
 use lib.ListN.{length, length-append}
-use lib.Pow.{pow-add, pow_pos}
-use lib.Ieee.{Float, binary64, of_bits, of_fields, odd, to_bits}
-use lib.Ieee.Bits.{of_bits-to_bits}
-use lib.Ieee.Positive.{num, den, den_pos}
+use lib.Pow.{pow_pos}
+use lib.Ieee.{Float}
+use lib.Ieee.Positive.{num, den}
 use borrow.Author.Tests.{eqb-true, eqb-false}
-use Rattle.logs.specs.Decimal.{decimal_up_to, decimal}
 use Rattle.logs.specs.declared.Counts.{Counts}
 use Rattle.logs.specs.Log.{is_counts}
 use Rattle.logs.proofs.Lists.{by_cases, cond_with}
@@ -20,34 +18,11 @@ use Rattle.summary.specs.declared.Summary.{Summary}
 use Rattle.summary.specs.Summary.{summary_of}
 use Rattle.summary.specs.Report.{frequency}
 use Rattle.summary.specs.Export.{decimals, expansion, cell, sheet_row, sheet_names}
-use Rattle.summary.specs.Building.{room, Measured, scaled}
+use Rattle.summary.specs.Building.{room, Measured}
 use Rattle.summary.proofs.Fits.{Short, two, number_short, ended_short}
-use Rattle.summary.proofs.Expansion.{expansion_same, decimals_done, decimals_next}
+use Rattle.summary.proofs.Expansion.{decimals_done, decimals_next}
 use Rattle.summary.proofs.Same.{mean_given, missing_given}
-use Rattle.summary.proofs.Decode.{field_of, digits_of, Decoded, decoded}
-
--- no bits: zero
-pub zero_text : (x : Float) → Measured x → to_bits binary64 x ≡ 0 → (48 ∷ []) ≡ expansion (num x) (den x)
-unfolding of_bits of_fields odd expansion decimal decimal_up_to
-zero_text x m e =
-    let z : x ≡ of_bits binary64 0 = sym (of_bits-to_bits binary64 x m.holds) ∙ ap (of_bits binary64) e in
-    sym (ap (λ (y : Float). expansion (num y) (den y)) z)
-
-pub scaled_of : (x : Float) (b : ℕ) → Decoded x b → (1003 ≤ field_of b) × (field_of b ≤ 1026) × (digits_of b < 2 ^ 53)
-scaled_of x b d = (d.least, d.most, omega arith)
-
-pub cross : (n e d k l j : ℕ) → n * 2 ^ (l + j) ≡ d * 2 ^ (k + j) * e → d * 2 ^ k * e ≡ n * 2 ^ l
-cross n e d k l j h =
-    eq_of_mul-eq-mul_right (2 ^ j) (pow_pos j) (d * 2 ^ k * e) (n * 2 ^ l)
-    (mul_right_comm (d * 2 ^ k) e (2 ^ j) ∙ ap (λ (z : ℕ). z * e) (mul_assoc d (2 ^ k) (2 ^ j) ∙ ap (λ (z : ℕ). d * z) (sym (pow-add 2 k j)))
-    ∙ sym h ∙ ap (λ (z : ℕ). n * z) (pow-add 2 l j) ∙ sym (mul_assoc n (2 ^ l) (2 ^ j)))
-
--- bits: the multiple of 2 ^ -72
-pub exact_text : (x : Float) (b : ℕ) → Decoded x b → expansion (scaled (field_of b) (digits_of b)) (2 ^ 72) ≡ expansion (num x) (den x)
-exact_text x b d =
-    let f : field_of b - 1 ≡ field_of b - 1003 + 1002 = omega (arith, d.least) in
-    expansion_same (scaled (field_of b) (digits_of b)) (2 ^ 72) (num x) (den x) (pow_pos 72) (den_pos x)
-    (cross (num x) (den x) (digits_of b) (field_of b - 1003) 72 1002 (d.value ∙ ap (λ (j : ℕ). digits_of b * 2 ^ j * den x) f))
+use Rattle.summary.proofs.Units.{units_of, expansion_units}
 
 -- ---- the length
 
@@ -103,11 +78,8 @@ expansion_short a =
 
 number_fits : (x : Float) → Measured x → Short (expansion (num x) (den x)) 93
 number_fits x m =
-    by_cases _ (eqb (to_bits binary64 x) 0)
-    (λ z. subst (λ (l : List ℕ). Short l 93) (zero_text x m (eqb-true (to_bits binary64 x) 0 z)) (record { most = omega arith }))
-    (λ z.
-    let d = decoded x m (eqb-false (to_bits binary64 x) 0 z) in
-    subst (λ (l : List ℕ). Short l 93) (exact_text x (to_bits binary64 x) d) (expansion_short (scaled (field_of (to_bits binary64 x)) (digits_of (to_bits binary64 x)))))
+    let u = units_of x m in
+    subst (λ (l : List ℕ). Short l 93) (expansion_units x u.0 u.1) (expansion_short u.0)
 
 cell_short : (e : Bool) (x : Float) → Measured x → Short (cell e x) 93
 unfolding cell

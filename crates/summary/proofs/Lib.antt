@@ -3,7 +3,7 @@ pub mod Fits
 pub mod Quotient
 pub mod Expansion
 pub mod Decode
-pub mod Limbs
+pub mod Units
 pub mod Same
 pub mod Exactly
 pub mod Denotes

@@ -1,16 +1,15 @@
 -- Numbers with the same bits are the same, and what is no number has other bits. Assumes nothing.
-use Prim.Native.Nat.{◌*◌}
 use mathlib.Core.Path.{◌≡◌, refl, ap, sym, ◌∙◌, subst}
-use mathlib.Core.Bool.{true, false, not, beq, ◌&&◌, ◌||◌, true≢false, and-eq-true_iff}
+use mathlib.Core.Bool.{true, false, not, beq, ◌&&◌, true≢false, and-eq-true_iff}
 use native.Mathlib.Omega.{arith}
-use lib.Dec.{T, eqb}
-use lib.Ieee.{Float, nan, inf, fin, binary64, up, down, fits, is_nan, eq, ne, of_bits, to_bits}
+use lib.Dec.{T}
+use lib.Ieee.{Float, nan, inf, fin, binary64, fits, is_nan, of_bits, to_bits}
 use lib.Ieee.Bits.{of_bits-to_bits}
 use lib.Ieee.Fits.{nan-fits}
 use lib.Ieee.Exact.{HasValue}
 use lib.Ieee.Positive.{num, den}
-use borrow.Author.Tests.{eqb-true, ne_eqb, eq-eqb}
-use Rattle.answers.proofs.Rules.{beq_refl, beq_true}
+use borrow.Author.Tests.{eqb-true, ne_eqb}
+use Rattle.answers.proofs.Rules.{beq_true}
 use Rattle.logs.specs.declared.Counts.{Counts}
 use Rattle.logs.specs.Log.{is_counts}
 use Rattle.summary.specs.declared.Summary.{Summary}
@@ -19,21 +18,12 @@ use Rattle.summary.specs.Export.{same_bits, is_summary}
 use Rattle.summary.specs.Building.{Measured}
 use Rattle.summary.proofs.Quotient.{bounds, measured_share}
 
--- only a NaN differs from itself
-pub ne_nan : (x : Float) → ne x x ≡ true → x ≡ nan
-unfolding ne eq
-ne_nan nan e = refl
-ne_nan (inf s) e = absurd (true≢false (sym (sym (ap not (beq_refl s)) ∙ e)))
-ne_nan (fin s m x) e =
-    let a = m * up x * down x in
-    let t : (eqb a a && (beq s s || eqb a 0)) ≡ true = rw (eq-eqb a a refl, beq_refl s) in
-    absurd (true≢false (sym (sym (ap not t) ∙ e)))
-
-pub eq_number : (x : Float) → ne x x ≡ false → T (not (is_nan x))
-unfolding ne eq is_nan
-eq_number nan e = absurd (true≢false e)
-eq_number (inf s) e = tt
-eq_number (fin s m x) e = tt
+-- there is one NaN
+pub nan_is : (x : Float) → is_nan x ≡ true → x ≡ nan
+unfolding is_nan
+nan_is nan e = refl
+nan_is (inf s) e = absurd (true≢false (sym e))
+nan_is (fin s m x) e = absurd (true≢false (sym e))
 
 pub measured_number : (x : Float) → Measured x → T (not (is_nan x))
 unfolding is_nan

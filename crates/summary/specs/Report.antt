@@ -1,6 +1,7 @@
 -- Document 01, "The log and its report": the report's nine lines. Assumes nothing.
-use Rattle.std.specs.Prelude.{ℕ, ◌*◌, ◌/◌, cond, List, [], ◌∷◌, ◌++◌, length, drop, leb, eqb}
-use Rattle.answers.specs.Numbers.{Paper, accepted, refused, paper}
+use Rattle.std.specs.Prelude.{ℕ, ◌*◌, ◌/◌, cond, List, [], ◌∷◌, ◌++◌, length, drop, leb, eqb, Result, Ok, Err}
+use Rattle.answers.specs.declared.Refusal.{Refusal}
+use Rattle.answers.specs.Numbers.{Paper, accepted, refused, number_of, paper}
 use Rattle.answers.specs.Rules.{unless}
 use Rattle.band.specs.Band.{kilohertz_of}
 use Rattle.text.specs.Ascii.{ascii, tab, line_feed}
@@ -8,7 +9,6 @@ use Rattle.logs.specs.declared.Counts.{Counts}
 use Rattle.logs.specs.declared.LogRead.{LogRead}
 use Rattle.logs.specs.Decimal.{decimal}
 use Rattle.logs.specs.Log.{is_counts}
-use Rattle.summary.specs.declared.Written.{Written}
 
 -- a text and the mark that ends it
 abbrev pub ended : List ℕ → ℕ → List ℕ
@@ -39,14 +39,16 @@ report_of counts =
     ++ (line (ascii "missing") (decimal counts.missing)
     ++ line (ascii "mean") (thousandths counts.bits counts.read))))))))
 
--- What is told of a text that was asked for: the paper's answer, the text's length, and the lent output as it is left.
+-- What is told of a text that was asked for: the paper's answer, the text's length, 0 where it was refused, and the lent output as it is
+-- left.
 pub record ToldText : Type 0 where
   pub answer : Paper
   pub length : ℕ
   pub out : List ℕ
 
-abbrev pub told_text : Written → List ℕ → ToldText
-told_text r out = record { answer = paper r.answer; length = r.length; out = out }
+abbrev pub told_text : Result ℕ Refusal → List ℕ → ToldText
+told_text (Ok length) out = record { answer = accepted; length = length; out = out }
+told_text (Err refusal) out = record { answer = refused (number_of refusal); length = 0; out = out }
 
 -- a refusal leaves the output as before
 abbrev pub not_delivered : ℕ → List ℕ → ToldText

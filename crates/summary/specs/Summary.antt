@@ -1,14 +1,14 @@
 -- Document 01, "The log and its report": the summary record, for the spreadsheet. Assumes nothing.
-use Rattle.std.specs.Prelude.{ℕ, false, cond, not, eqb, pos, Float}
+use Rattle.std.specs.Prelude.{ℕ, false, cond, not, eqb, pos, Float, Result, Ok, Err}
 use Rattle.std.specs.Float.{binary64}
 use Rattle.std.specs.Float.Ieee.{of_int, of_bits, div}
 use Rattle.std.specs.Float.Ieee.Exact.{HasValue}
-use Rattle.answers.specs.Numbers.{Paper, accepted, refused, paper}
+use Rattle.answers.specs.declared.Refusal.{Refusal}
+use Rattle.answers.specs.Numbers.{Paper, accepted, refused, number_of}
 use Rattle.answers.specs.Rules.{unless}
 use Rattle.logs.specs.declared.Counts.{Counts}
 use Rattle.logs.specs.Log.{is_counts}
 use Rattle.summary.specs.declared.Summary.{Summary}
-use Rattle.summary.specs.declared.Summarised.{Summarised}
 
 -- all 64 bits are 0
 abbrev pub positive_zero : Float
@@ -47,13 +47,14 @@ pub record WithoutLoss (counts : Counts) : Type 0 where
 abbrev pub no_summary : Summary
 no_summary = record { mean_exists = false; mean = positive_zero; missing_exists = false; missing = positive_zero }
 
--- What is told of a summary: the paper's answer, and the record.
+-- What is told of a summary: the paper's answer, and the record, that with both flags clear where it was refused.
 pub record ToldSummary : Type 0 where
   pub answer : Paper
   pub summary : Summary
 
-abbrev pub told_summary : Summarised → ToldSummary
-told_summary r = record { answer = paper r.answer; summary = r.summary }
+abbrev pub told_summary : Result Summary Refusal → ToldSummary
+told_summary (Ok summary) = record { answer = accepted; summary = summary }
+told_summary (Err refusal) = record { answer = refused (number_of refusal); summary = no_summary }
 
 -- counts that no accepted log gives are 11
 unfoldable pub summarised_of : Counts → ToldSummary

@@ -4,8 +4,7 @@ use mathlib.Core.Path.{◌≡◌, sym, ap, ◌∙◌}
 use mathlib.Core.Bool.{Bool}
 use mathlib.Core.List.{List}
 use lib.ListN.{length}
-use Rattle.text.specs.declared.hexadecimal.Bytes.{Bytes}
-use Rattle.text.specs.declared.numbers.Number.{Number}
+use Rattle.std.specs.Prelude.{Option}
 use Rattle.text.specs.Find.{index_of}
 use Rattle.text.specs.Fields.{same_as, tabs, field_of}
 use Rattle.text.specs.Hexadecimal.{read_bytes_of, room_after, count_of, hex_digit}
@@ -28,11 +27,11 @@ pub field_once : (line : List ℕ) (index : ℕ) (r s : List ℕ) → r ≡ fiel
 field_once line index r s p q = p ∙ sym q
 
 -- `read_bytes`: what it returns, and the output
-pub read_bytes_once : (digits output : List ℕ) (r s : Bytes) (x y : List ℕ) → r ≡ read_bytes_of digits (length output) → x ≡ room_after r digits output
+pub read_bytes_once : (digits output : List ℕ) (r s : Option ℕ) (x y : List ℕ) → r ≡ read_bytes_of digits (length output) → x ≡ room_after r digits output
     → count_of r ≤ length x → s ≡ read_bytes_of digits (length output) → y ≡ room_after s digits output → count_of s ≤ length y → (r ≡ s) × (x ≡ y)
 read_bytes_once digits output r s x y p left few q right fewer =
     let e = p ∙ sym q in
-    (e, left ∙ ap (λ (b : Bytes). room_after b digits output) e ∙ sym right)
+    (e, left ∙ ap (λ (b : Option ℕ). room_after b digits output) e ∙ sym right)
 
 -- `first_digit`
 pub first_digit_once : (byte r s : ℕ) → r ≡ hex_digit (byte / 16) → s ≡ hex_digit (byte / 16) → r ≡ s
@@ -43,5 +42,5 @@ pub second_digit_once : (byte r s : ℕ) → r ≡ hex_digit (byte % 16) → s �
 second_digit_once byte r s p q = p ∙ sym q
 
 -- `read_number`
-pub read_number_once : (digits : List ℕ) (most : ℕ) (r s : Number) → r ≡ read_number_of most digits → s ≡ read_number_of most digits → r ≡ s
+pub read_number_once : (digits : List ℕ) (most : ℕ) (r s : Option ℕ) → r ≡ read_number_of most digits → s ≡ read_number_of most digits → r ≡ s
 read_number_once digits most r s p q = p ∙ sym q

@@ -1,20 +1,17 @@
 -- docs/PROBE.md: a line is a command and its arguments, parted by tabs; and bytes that are the same, as the log and the group state compare them too.
 -- Assumes nothing.
-use Rattle.std.specs.Prelude.{ℕ, zero, suc, Bool, true, false, cond, ◌&&◌, List, [], ◌∷◌, take, drop, eqb}
+use Rattle.std.specs.Prelude.{ℕ, zero, suc, Bool, List, take, drop, eqb, count_by}
+use Rattle.std.specs.Cmp.Lexicographic.{pointwise}
 use Rattle.text.specs.Find.{index_of}
 use Rattle.text.specs.Ascii.{tab}
 
 -- the same bytes in the same order
 abbrev pub same_as : List ℕ → List ℕ → Bool
-same_as [] [] = true
-same_as [] (b ∷ bs) = false
-same_as (a ∷ xs) [] = false
-same_as (a ∷ xs) (b ∷ bs) = eqb a b && same_as xs bs
+same_as = pointwise eqb
 
 -- the tabs of a line
 abbrev pub tabs : List ℕ → ℕ
-tabs [] = 0
-tabs (b ∷ line) = cond (eqb b tab) (suc (tabs line)) (tabs line)
+tabs line = count_by (λ b. eqb b tab) line
 
 -- a field is what stands before the first tab, or all where there is none, once as many fields as its index are taken off with the tab behind each
 abbrev pub field_of : ℕ → List ℕ → List ℕ

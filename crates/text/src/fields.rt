@@ -5,23 +5,14 @@ ghost use Rattle.text.specs.Fields.{same_as, tabs, field_of};
 
 use memchr::memchr;
 
-// Whether a and b hold the same bytes. All are looked at, since a loop that may end early is compiled byte by byte.
+// Whether a and b hold the same bytes: `==`, with the promise that laws of `same_as` stand on.
 pub fn same(a: &[u8], b: &[u8]) -> bool
     ensures { result ≡ same_as a.now b.now }
 {
-    if a.len() != b.len() {
-        return false;
-    }
-    let mut equal = true;
-    let mut i = 0;
-    while i < a.len() {
-        equal = equal & (a[i] == b[i]);
-        i += 1;
-    }
-    equal
+    a == b
 }
 
-// How many bytes stand before the first that is this one, and all where there is none.
+// How many bytes stand before the first that is this one, and all where there is none: a place to cut at in either case.
 pub fn find(bytes: &[u8], byte: u8) -> usize
     ensures first { result ≡ index_of byte bytes.now }
     ensures within { result ≤ length bytes.now }
@@ -33,31 +24,12 @@ pub fn find(bytes: &[u8], byte: u8) -> usize
 pub fn arguments(line: &[u8]) -> usize
     ensures { result ≡ tabs line.now }
 {
-    let mut count = 0;
-    let mut i = 0;
-    while i < line.len() {
-        if line[i] == b'\t' {
-            count += 1;
-        }
-        i += 1;
-    }
-    count
+    line.iter().filter(|byte| **byte == b'\t').count()
 }
 
 // The field with an index, 0 for the command; where the line has no such field, nothing.
 pub fn field(line: &[u8], index: usize) -> &[u8]
     ensures { result.now ≡ field_of index line.now }
 {
-    let mut rest = line;
-    let mut left = index;
-    while 0 < left {
-        let skipped = find(rest, b'\t');
-        if rest.len() <= skipped {
-            return &rest[skipped..];
-        }
-        rest = &rest[skipped + 1..];
-        left -= 1;
-    }
-    let count = find(rest, b'\t');
-    &rest[..count]
+    line.split(|byte| *byte == b'\t').nth(index).unwrap_or(&[])
 }

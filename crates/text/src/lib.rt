@@ -7,5 +7,5 @@ mod hexadecimal;
 mod numbers;
 
 pub use fields::{arguments, field, find, same};
-pub use hexadecimal::{Bytes, first_digit, read_bytes, second_digit};
-pub use numbers::{Number, read_number};
+pub use hexadecimal::{first_digit, read_bytes, second_digit};
+pub use numbers::read_number;

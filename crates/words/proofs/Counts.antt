@@ -90,7 +90,7 @@ module _ (c : Planes) (a b : ℕ) where
       )
 
 -- THE THRESHOLD: sixteen, or eight and something
-nine_of : (a b c d e : Bool) → (e || (d && (a || (b || c)))) ≡ leb majority (bit a + 2 * bit b + 4 * bit c + 8 * bit d + 16 * bit e)
+nine_of : (a b c d e : Bool) → (e || (d && (a || b || c))) ≡ leb majority (bit a + 2 * bit b + 4 * bit c + 8 * bit d + 16 * bit e)
 nine_of a b c d true = sym (le-leb majority (bit a + 2 * bit b + 4 * bit c + 8 * bit d + 16) (omega arith))
 nine_of a b c false false = sym (lt-leb majority (bit a + 2 * bit b + 4 * bit c + 0 + 0) (omega (arith, bit_lt a, bit_lt b, bit_lt c)))
 nine_of true b c true false = sym (le-leb majority (1 + 2 * bit b + 4 * bit c + 8 + 0) (omega arith))
@@ -98,12 +98,12 @@ nine_of false true c true false = sym (le-leb majority (0 + 2 + 4 * bit c + 8 + 
 nine_of false false true true false = refl
 nine_of false false false true false = refl
 
-pub counted_nine : (c : Planes) (k : ℕ) → bit_of (bit_or c.sixteens (bit_and c.eights (bit_or c.ones (bit_or c.twos c.fours)))) k ≡ leb majority (counted c k)
+pub counted_nine : (c : Planes) (k : ℕ) → bit_of (bit_or c.sixteens (bit_and c.eights (bit_or (bit_or c.ones c.twos) c.fours))) k ≡ leb majority (counted c k)
 unfolding counted
 counted_nine c k =
-    bit_of_or c.sixteens (bit_and c.eights (bit_or c.ones (bit_or c.twos c.fours))) k
-    ∙ ap (λ z. bit_of c.sixteens k || z) (bit_of_and c.eights (bit_or c.ones (bit_or c.twos c.fours)) k)
-    ∙ ap (λ z. bit_of c.sixteens k || (bit_of c.eights k && z)) (bit_of_or c.ones (bit_or c.twos c.fours) k ∙ ap (λ z. bit_of c.ones k || z) (bit_of_or c.twos c.fours k))
+    bit_of_or c.sixteens (bit_and c.eights (bit_or (bit_or c.ones c.twos) c.fours)) k
+    ∙ ap (λ z. bit_of c.sixteens k || z) (bit_of_and c.eights (bit_or (bit_or c.ones c.twos) c.fours) k)
+    ∙ ap (λ z. bit_of c.sixteens k || (bit_of c.eights k && z)) (bit_of_or (bit_or c.ones c.twos) c.fours k ∙ ap (λ z. z || bit_of c.fours k) (bit_of_or c.ones c.twos k))
     ∙ nine_of (bit_of c.ones k) (bit_of c.twos k) (bit_of c.fours k) (bit_of c.eights k) (bit_of c.sixteens k)
 
 -- the words that are one at the positions of a block

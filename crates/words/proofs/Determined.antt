@@ -1,6 +1,6 @@
 -- NO TWO OUTCOMES MEET A PROMISE of this crate's public functions. Assumes nothing.
 use mathlib.Core.Path.{◌≡◌, refl, sym, ap, ◌∙◌}
-use mathlib.Core.Bool.{Bool, true, false}
+use mathlib.Core.Bool.{Bool, true}
 use mathlib.Core.List.{List}
 use Prim.Native.Nat.{ℕ}
 use native.Mathlib.Decide.{dec_lt, ℕ_discrete}
@@ -9,6 +9,7 @@ use lib.ListN.{length}
 use lib.Pow.{are_bytes}
 use Rattle.code.specs.Code.{difference, ones}
 use Rattle.code.proofs.Majority.{only_word}
+use Rattle.std.specs.Prelude.{Option, Some, None}
 use Rattle.words.specs.declared.Found.{Found}
 use Rattle.words.specs.Words.{row_of_words, OfBytes, FilledBytes}
 use Rattle.words.specs.Near.{Near, Searched}
@@ -39,19 +40,11 @@ found_once {row} {u} {v} {m} {n} {xs} {ys} l p q =
     (word, (p.counts ∙ ap (λ zs. ones (row_of_words zs)) changed ∙ sym q.counts, changed))
 
 -- `search`, of five words
-pub search_once : (words : List ℕ) (r s : Found) → length words ≡ 5 → Searched (row_of_words words) r → Searched (row_of_words words) s → r ≡ s
-search_once words r s five u v = go r.near s.near refl refl
-  where
-    both : r.near ≡ s.near → r.word ≡ s.word → (r.count ≡ s.count) × (r.changed ≡ s.changed) → r ≡ s
-    both near word rest = λ i. record { near = near i; word = word i; count = rest.0 i; changed = rest.1 i }
-
-    go : (a b : Bool) → r.near ≡ a → s.near ≡ b → r ≡ s
-    go true true e f =
-        let once = found_once (length_row words five) (u.some e).1 (v.some f).1 in
-        both (e ∙ sym f) (words_once r.word s.word (u.some e).0 (v.some f).0 once.0) once.1
-    go true false e f = absurd ((v.none f).0 _ (u.some e).1.code (u.some e).1.near)
-    go false true e f = absurd ((u.none e).0 _ (v.some f).1.code (v.some f).1.near)
-    go false false e f =
-        let x = u.none e in
-        let y = v.none f in
-        both (e ∙ sym f) (x.1 ∙ sym y.1) (x.2 ∙ sym y.2, x.3 ∙ sym y.3)
+pub search_once : (words : List ℕ) (r s : Option Found) → length words ≡ 5 → Searched (row_of_words words) r → Searched (row_of_words words) s → r ≡ s
+search_once words (Some x) (Some y) five u v =
+    let once = found_once (length_row words five) u.1 v.1 in
+    let word = words_once x.word y.word u.0 v.0 once.0 in
+    λ i. Some (record { word = word i; count = once.1.0 i; changed = once.1.1 i })
+search_once words (Some x) None five u v = absurd (v (row_of_words x.word) u.1.code u.1.near)
+search_once words None (Some y) five u v = absurd (u (row_of_words y.word) v.1.code v.1.near)
+search_once words None None five u v = refl

@@ -1,6 +1,6 @@
 -- What was seen decides what is found. Assumes nothing.
 use mathlib.Core.Path.{◌≡◌, refl, sym, ap, ◌∙◌, subst}
-use mathlib.Core.Bool.{Bool, true, false, false≢true}
+use mathlib.Core.Bool.{Bool, false}
 use mathlib.Core.List.{List, [], ◌∷◌}
 use Prim.Native.Nat.{ℕ, zero, suc, ◌+◌, ◌*◌, ◌%◌, ◌^◌, ◌≤◌, ◌<◌}
 use native.Mathlib.Nat.{mod-lt}
@@ -16,7 +16,7 @@ use Rattle.code.specs.Code.{CodeWord, difference, ones, distance, most_corrected
 use Rattle.code.specs.Vote.{bit_at, parity_sums, voted}
 use Rattle.code.proofs.Majority.{length_voted, bit_voted}
 use Rattle.code.proofs.Accepted.{accepts}
-use Rattle.words.specs.declared.Found.{Found}
+use Rattle.std.specs.Prelude.{Some}
 use Rattle.words.specs.Bytes.{bit_of, bit_in, row_of}
 use Rattle.words.specs.Words.{FiveWords, row_of_words, zero_words}
 use Rattle.words.specs.Near.{Near, NoneNear, Searched}
@@ -136,25 +136,17 @@ module _ (row : List Bool) (l : length row ≡ 272) where
   pub voted_word : (changed given word : List ℕ) → row_of_words given ≡ row → row_of_words changed ≡ turned (parity_sums row) → row_of_words word ≡ difference (row_of_words given) (row_of_words changed) → row_of_words word ≡ voted row
   voted_word changed given word same places sum = sum ∙ (λ i. difference (same i) (places i)) ∙ sym voted_is
 
-  -- WHAT IS FOUND, with a code word and without
-  pub found_clean : (given : List ℕ) → FiveWords given → row_of_words given ≡ row → CodeWord row → Searched row (record { near = true; word = given; count = 0; changed = zero_words })
-  found_clean given five same code = record {
-    some = λ z. (five, subst (λ (w : List Bool). Near row w 0 zero_words) (sym same) (clean_near code));
-    none = λ z. absurd (false≢true (sym z));
-  }
+  -- WHAT IS FOUND, with a code word
+  pub found_clean : (given : List ℕ) → FiveWords given → row_of_words given ≡ row → CodeWord row → Searched row (Some (record { word = given; count = 0; changed = zero_words }))
+  found_clean given five same code = (five, subst (λ (w : List Bool). Near row w 0 zero_words) (sym same) (clean_near code))
 
   pub found_voted : (count : ℕ) (changed given word : List ℕ) → row_of_words given ≡ row → FiveWords changed → row_of_words changed ≡ turned (parity_sums row) → count ≡ ones (turned (parity_sums row))
       → ones (turned (parity_sums row)) ≤ most_corrected → FiveWords word × (row_of_words word ≡ difference (row_of_words given) (row_of_words changed)) → CodeWord (row_of_words word)
-      → Searched row (record { near = true; word = word; count = count; changed = changed })
+      → Searched row (Some (record { word = word; count = count; changed = changed }))
   found_voted count changed given word same five places counts few sum code =
       let is : row_of_words word ≡ voted row = voted_word changed given word same places sum.1 in
-      record {
-        some = λ z. (sum.0, subst (λ (w : List Bool). Near row w count changed) (sym is) (voted_near count changed five places counts few (subst CodeWord is code)));
-        none = λ z. absurd (false≢true (sym z));
-      }
+      (sum.0, subst (λ (w : List Bool). Near row w count changed) (sym is) (voted_near count changed five places counts few (subst CodeWord is code)))
 
-  pub found_none : (found : Found) → (found.near ≡ false) × (found.word ≡ zero_words) × (found.count ≡ 0) × (found.changed ≡ zero_words) → NoneNear row → Searched row found
-  found_none found zeros none = record { some = λ z. absurd (false≢true (sym zeros.0 ∙ z)); none = λ z. (none, zeros.1, zeros.2, zeros.3) }
-
-pub of_row : {row other : List Bool} {found : Found} → row ≡ other → Searched row found → Searched other found
-of_row {row} {other} {found} e s = subst (λ (x : List Bool). Searched x found) e s
+-- near a row is near the same row
+pub of_row : {row other word : List Bool} {count : ℕ} {changed : List ℕ} → row ≡ other → Near row word count changed → Near other word count changed
+of_row {row} {other} {word} {count} {changed} e near = subst (λ (x : List Bool). Near x word count changed) e near

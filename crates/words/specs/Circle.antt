@@ -1,5 +1,5 @@
 -- What the private functions of src/circle.rt and src/votes.rt owe. No public promise cites this file. Assumes nothing.
-use Rattle.std.specs.Prelude.{◌≡◌, Bool, true, false, List, ℕ, ◌+◌, ◌*◌, ◌%◌, ◌<◌, ◌≤◌, leb, length}
+use Rattle.std.specs.Prelude.{◌≡◌, Bool, List, ℕ, ◌+◌, ◌*◌, ◌%◌, ◌<◌, ◌≤◌, leb, length, Option, Some, None}
 use Rattle.gf2.specs.Poly.{bit, row_from}
 use Rattle.code.specs.Code.{ones, most_corrected}
 use Rattle.code.specs.Vote.{bit_at, odd_sums, majority}
@@ -29,6 +29,6 @@ unfoldable pub counted : Planes → ℕ → ℕ
 counted c k = bit (bit_of c.ones k) + 2 * bit (bit_of c.twos k) + 4 * bit (bit_of c.fours k) + 8 * bit (bit_of c.eights k) + 16 * bit (bit_of c.sixteens k)
 
 -- what the vote turns, where that is few places
-pub record Voted (sums : List Bool) (t : Turned) : Type 0 where
-  pub few : t.few ≡ true → FiveWords t.changed × (row_of_words t.changed ≡ turned sums) × (t.count ≡ ones (turned sums)) × (ones (turned sums) ≤ most_corrected)
-  pub many : t.few ≡ false → most_corrected < ones (turned sums)
+abbrev pub Voted : List Bool → Option Turned → Type 0
+Voted sums (Some t) = FiveWords t.changed × (row_of_words t.changed ≡ turned sums) × (t.count ≡ ones (turned sums)) × (ones (turned sums) ≤ most_corrected)
+Voted sums None = most_corrected < ones (turned sums)

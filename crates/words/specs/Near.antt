@@ -1,8 +1,8 @@
 -- Document 01, "The block": the code word near a row, over all code words, as five words (document 02, tickets 1 and 3). Assumes nothing.
-use Rattle.std.specs.Prelude.{◌≡◌, Bool, true, false, List, ℕ, ◌≤◌}
+use Rattle.std.specs.Prelude.{◌≡◌, Bool, List, ℕ, ◌≤◌, Option, Some, None}
 use Rattle.code.specs.Code.{CodeWord, difference, ones, distance, most_corrected}
 use Rattle.words.specs.declared.Found.{Found}
-use Rattle.words.specs.Words.{FiveWords, row_of_words, zero_words}
+use Rattle.words.specs.Words.{FiveWords, row_of_words}
 
 -- a code word differs from a row in at most eight places; the row of changed places is exactly the difference between the two, and the
 -- count is the number of ones in it
@@ -17,7 +17,7 @@ pub record Near (row word : List Bool) (count : ℕ) (changed : List ℕ) : Type
 abbrev pub NoneNear : List Bool → Type 0
 NoneNear row = (word : List Bool) → CodeWord word → distance row word ≤ most_corrected → ⊥
 
--- what is found for a row: the code word that is near, or that none is, and then all words and the count are zero
-pub record Searched (row : List Bool) (found : Found) : Type 0 where
-  pub some : found.near ≡ true → FiveWords found.word × Near row (row_of_words found.word) found.count found.changed
-  pub none : found.near ≡ false → NoneNear row × (found.word ≡ zero_words) × (found.count ≡ 0) × (found.changed ≡ zero_words)
+-- what is found for a row: the code word that is near, or that none is
+abbrev pub Searched : List Bool → Option Found → Type 0
+Searched row (Some found) = FiveWords found.word × Near row (row_of_words found.word) found.count found.changed
+Searched row None = NoneNear row

@@ -6,11 +6,11 @@ use mathlib.Core.Bool.{Bool, true, false, not, cond, ◌||◌, true≢false}
 use mathlib.Core.List.{List, [], ◌∷◌, ◌++◌, map, map-append, append_assoc}
 use native.Mathlib.Numerals.{add-one}
 use native.Mathlib.Omega.{arith}
-use borrow.Author.Tests.{eq-eqb}
+use borrow.Author.Tests.{eq-eqb, lt-ltb}
 use lib.Dec.{eqb, leb, eqb-suc-zero}
 use lib.ListN.{length, take, drop, replicate, length-append, length-take, length-drop, take-append-drop}
 use lib.Seq.{paste, length-paste, take_all}
-use Rattle.answers.specs.Numbers.{accepted, paper}
+use Rattle.answers.specs.Numbers.{accepted}
 use Rattle.answers.specs.Rules.{state_left}
 use Rattle.answers.proofs.Runs.{run_told, run_append, left_append}
 use Rattle.channel.specs.Answers as channel
@@ -22,7 +22,7 @@ use Rattle.channel.specs.declared.Header.{Header}
 use Rattle.channel.specs.declared.Stepped.{Stepped}
 use Rattle.channel.proofs.Laws.{rule_sc}
 use Rattle.group.specs.Answers.{Outcome, taken, repeat, whole, refused, GroupAfter, group_after}
-use Rattle.group.specs.State.{group_with, idle, keeps_rule, message_fits, is_repeat, joined_on, join_of}
+use Rattle.group.specs.State.{group_with, idle, keeps_rule, message_fits, is_repeat, follows_of, joined_on, join_of}
 use Rattle.group.specs.Leading.{Message, GroupAndBuffer, JoinResult, told_result, join_message, left_by, Joins}
 use Rattle.group.specs.Repeats.{Sent, once, often, TwoBits, MayRepeat, AllMayRepeat, with_repeats, repeat_of}
 use Rattle.group.specs.declared.Group.{Group}
@@ -33,10 +33,11 @@ use Rattle.group.proofs.Rule.{idle_rule, gathering_rule}
 use Rattle.group.proofs.Leading.{front}
 use Rattle.group.proofs.Repeats.{joins_of, often_run, often_left, idle_new, stepped_new, last_new, first_as_idle}
 use Rattle.writer.specs.Reading.{pieces, Steps, answers_in, channel_left, Listens, message_in, messages_in, AllRead, first_is_repeat, group_answers, WroteMessage, WroteAll, blocks_left, LastOnce, GroupBack}
-use Rattle.writer.specs.Message.{header_for, message_blocks, flat, LeavesBlocks}
+use Rattle.writer.specs.Message.{header_for, message_blocks, flat, LeavesBlocks, wrote_answer, wrote_blocks}
 use Rattle.writer.specs.Group.{series_in_widths, group_fields, messages_for, messages_of, group_messages, blocks_of, group_blocks, write_group_of}
 use Rattle.writer.specs.declared.Series.{Series}
-use Rattle.writer.specs.declared.Wrote.{Wrote}
+use Rattle.std.specs.Prelude.{Result}
+use Rattle.answers.specs.declared.Refusal.{Refusal}
 use Rattle.writer.proofs.Runs.{leaves, steps_of, steps_told, run_elim}
 use Rattle.writer.proofs.ReadBack.{blocks_back}
 use Rattle.writer.proofs.Laws.{within_widths, within_true}
@@ -109,8 +110,8 @@ all_wrote di sc (m ∷ messages) [] did = absurd did
 all_wrote di sc (m ∷ messages) (o ∷ written) did =
     let p = message_pieces m.fields di sc m.bytes o.before o.after o.wrote did.0.2 did.0.1 in
     let b = within_widths p.0 in
-    let ih = all_wrote di ((o.sc + o.wrote.blocks) % 16) messages written did.1 in
-    let next : (o.sc + o.wrote.blocks) % 16 ≡ (sc + length (message_blocks m.fields di sc m.bytes)) % 16 = λ i. (did.0.0 i + p.1 i) % 16 in (
+    let ih = all_wrote di ((o.sc + wrote_blocks o.wrote) % 16) messages written did.1 in
+    let next : (o.sc + wrote_blocks o.wrote) % 16 ≡ (sc + length (message_blocks m.fields di sc m.bytes)) % 16 = λ i. (did.0.0 i + p.1 i) % 16 in (
       ((omega (arith, b), omega (arith, b), omega (arith, b), b.4), ih.0),
       ap₂ (λ (xs ys : List (List ℕ)). xs ++ ys) p.2 (ih.1 ∙ ap (λ (k : ℕ). blocks_of di k messages) next),
     )
@@ -142,7 +143,8 @@ module _ (number ri : ℕ) (small_number : number ≤ 16383) (small_ri : ri ≤ 
       let g = group_with number Gathering held messages ci d in
       let m = group_fields number ri ((ci + 1) % 4) false last in
       let ours : (not (eqb number number) || false) ≡ false = rw (eq-eqb number number refl) in
-      sym (joining.joins g m s buffer room rule (allowed ((ci + 1) % 4) (length s) false last (omega arith) hd) ours (stepped_new g m s buffer (λ e. omega (arith, e))) refl false refl refl refl hm)
+      let accept : accepted ≡ follows_of g m = rw (eq-eqb ((ci + 1) % 4) ((ci + 1) % 4) refl, lt-ltb _ _ hm) in
+      sym (joining.joins g m s buffer room rule (allowed ((ci + 1) % 4) (length s) false last (omega arith) hd) ours (stepped_new g m s buffer (λ e. omega (arith, e))) refl accept)
 
   record SeriesJoined (k : ℕ) (s : List ℕ) (base : Group) (from : GroupAndBuffer) (told : List GroupAfter) : Type 0 where
     answers : map (λ t. t.answer) told ≡ group_answers false k (base.held + length s)
@@ -270,18 +272,18 @@ group_fit : (x : Series) (s : List ℕ) → series_in_widths x (length s) ≡ tr
 group_fit x s fits = let b = within_widths fits in series_fit (messages_for (length s)) true x.number x.ri x.ci s (omega arith) (omega arith) (omega arith)
 
 -- A GROUP WRITTEN READS BACK
-pub group_back : (x : Series) (s before after : List ℕ) (w : Wrote) (c : Channel) (steps : List Stepped) (g : GroupAndBuffer) (joins : List JoinResult)
-    → LeavesBlocks (write_group_of x s (length before)) w before after → paper w.answer ≡ accepted
-    → Listens c → c.expected ≡ x.sc → Steps c (pieces w.blocks after) steps
+pub group_back : (x : Series) (s before after : List ℕ) (w : Result ℕ Refusal) (c : Channel) (steps : List Stepped) (g : GroupAndBuffer) (joins : List JoinResult)
+    → LeavesBlocks (write_group_of x s (length before)) w before after → wrote_answer w ≡ accepted
+    → Listens c → c.expected ≡ x.sc → Steps c (pieces (wrote_blocks w) after) steps
     → keeps_rule g.group ≡ true → g.group.number ≡ x.number → 3825 ≤ length g.buffer → Joins g (messages_in (map told_step steps)) joins
-    → GroupBack x.number s (group_messages x s) w.blocks c (map told_step steps) (group_answers (first_is_repeat g (group_messages x s)) (messages_for (length s) - 1) (length s)) g (map told_result joins)
+    → GroupBack x.number s (group_messages x s) (wrote_blocks w) c (map told_step steps) (group_answers (first_is_repeat g (group_messages x s)) (messages_for (length s) - 1) (length s)) g (map told_result joins)
 unfolding group_blocks
 group_back x s before after w c steps g joins wrote took l sc did rule same room joined =
     let p = group_pieces x s before after w wrote took in
-    let blocks : pieces w.blocks after ≡ blocks_of x.di c.expected (group_messages x s) = p.2 ∙ λ i. blocks_of x.di (sym sc i) (group_messages x s) in
-    let count : w.blocks ≡ length (blocks_of x.di c.expected (group_messages x s)) = p.1 ∙ ap length (sym p.2 ∙ blocks) in
-    let read : AllRead (group_messages x s) w.blocks c (map told_step steps) =
-    rw (steps_told c (pieces w.blocks after) steps did, blocks, count) (messages_read x.di (group_messages x s) c (group_fit x s p.0) l) in
+    let blocks : pieces (wrote_blocks w) after ≡ blocks_of x.di c.expected (group_messages x s) = p.2 ∙ λ i. blocks_of x.di (sym sc i) (group_messages x s) in
+    let count : wrote_blocks w ≡ length (blocks_of x.di c.expected (group_messages x s)) = p.1 ∙ ap length (sym p.2 ∙ blocks) in
+    let read : AllRead (group_messages x s) (wrote_blocks w) c (map told_step steps) =
+    rw (steps_told c (pieces (wrote_blocks w) after) steps did, blocks, count) (messages_read x.di (group_messages x s) c (group_fit x s p.0) l) in
     let told : map told_result joins ≡ joins_of g (group_messages x s) = run_told join_message left_by told_result g (messages_in (map told_step steps)) joins joined ∙ ap (joins_of g) read.given in
     let J : SeriesJoins x.number (messages_for (length s) - 1) s g (group_messages x s) (map told_result joins) = rw told (group_joins x s g p.0 rule same room) in
     record { read = read; answers = J.answers; state = J.state; bytes = J.bytes }

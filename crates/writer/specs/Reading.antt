@@ -2,7 +2,7 @@
 -- header, data and padding, and the same blocks where its first SC is given and all its DIs were the one given." What these claims say: `ReadBack`,
 -- `WrittenAgain` and `GroupBack` of any outcomes that the contracts of the writers, of `Channel::step` and of `Group::join` allow, `MessageAgain` of
 -- the bytes of a message, as the writer's definitions lay them out. With ticket 2 of document 02 a group's messages may be sent again. Assumes nothing.
-use Rattle.std.specs.Prelude.{ℕ, zero, suc, ◌+◌, ◌-◌, ◌%◌, ◌≤◌, ◌≡◌, Bool, true, false, cond, List, [], ◌∷◌, ◌++◌, map, length, take, drop, replicate}
+use Rattle.std.specs.Prelude.{ℕ, zero, suc, ◌+◌, ◌-◌, ◌%◌, ◌≤◌, ◌≡◌, Bool, true, false, cond, List, [], ◌∷◌, ◌++◌, map, length, take, drop, replicate, Result}
 use Rattle.answers.specs.Numbers as answers
 use Rattle.answers.specs.Rules.{Run, state_left}
 use Rattle.gf2.specs.Poly.{bit}
@@ -21,8 +21,8 @@ use Rattle.group.specs.Answers.{GroupAfter}
 use Rattle.group.specs.Leading.{Message, GroupAndBuffer, left_by}
 use Rattle.group.specs.State.{idle, is_repeat}
 use Rattle.group.specs.Repeats.{Sent, TwoBits}
-use Rattle.writer.specs.Message.{header_for, message_bytes, message_in_widths, write_message_of, flat, LeavesBlocks}
-use Rattle.writer.specs.declared.Wrote.{Wrote}
+use Rattle.writer.specs.Message.{header_for, message_bytes, message_in_widths, write_message_of, flat, LeavesBlocks, wrote_answer, wrote_blocks}
+use Rattle.answers.specs.declared.Refusal.{Refusal}
 
 -- ---- blocks through a channel
 
@@ -88,9 +88,9 @@ pub record MessageAgain (m : Header) (bytes gathered : List ℕ) : Type 0 where
   pub same : message_bytes (header_for (fields_of m) (length (data_of m bytes))) (data_of m bytes) ≡ gathered
 
 -- and of what the writer leaves: it is accepted, and these are its blocks
-pub record WrittenAgain (blocks : List (List ℕ)) (w : Wrote) (output : List ℕ) : Type 0 where
-  pub accepted : answers.paper w.answer ≡ answers.accepted
-  pub same : pieces w.blocks output ≡ blocks
+pub record WrittenAgain (blocks : List (List ℕ)) (w : Result ℕ Refusal) (output : List ℕ) : Type 0 where
+  pub accepted : wrote_answer w ≡ answers.accepted
+  pub same : pieces (wrote_blocks w) output ≡ blocks
 
 -- ---- a group reads back
 
@@ -124,7 +124,7 @@ group_answers again (suc k) n = cond again group.repeat group.taken ∷ group_an
 -- what `write_message` gave for a message: the SC it was to start with, what it returned, and the output before and after
 pub record WroteMessage : Type 0 where
   pub sc : ℕ
-  pub wrote : Wrote
+  pub wrote : Result ℕ Refusal
   pub before : List ℕ
   pub after : List ℕ
 
@@ -132,12 +132,12 @@ pub record WroteMessage : Type 0 where
 abbrev pub WroteAll : Bool → ℕ → List Message → List WroteMessage → Type 0
 WroteAll di =
     Run
-    (λ sc m o. (o.sc ≡ sc) × (answers.paper o.wrote.answer ≡ answers.accepted) × LeavesBlocks (write_message_of m.fields di sc m.bytes (length o.before)) o.wrote o.before o.after)
-    (λ o. (o.sc + o.wrote.blocks) % 16)
+    (λ sc m o. (o.sc ≡ sc) × (wrote_answer o.wrote ≡ answers.accepted) × LeavesBlocks (write_message_of m.fields di sc m.bytes (length o.before)) o.wrote o.before o.after)
+    (λ o. (o.sc + wrote_blocks o.wrote) % 16)
 
 -- the blocks that it left, one message's after the other's
 abbrev pub blocks_left : List WroteMessage → List (List ℕ)
-blocks_left written = flat (map (λ o. pieces o.wrote.blocks o.after) written)
+blocks_left written = flat (map (λ o. pieces (wrote_blocks o.wrote) o.after) written)
 
 -- each message but the last with any copies behind it, their RI of two bits; the last with none
 abbrev pub LastOnce : List Sent → Type 0

@@ -1,25 +1,22 @@
--- `frame::correct_frame`: the length, then one stage after the other. Assumes nothing.
-use mathlib.Core.Logic.{inl, inr}
-use mathlib.Core.Path.{◌≡◌, refl, ◌∙◌}
+-- `frame::correct_frame`: one stage after the other. Assumes nothing.
+use mathlib.Core.Logic.{inr}
+use mathlib.Core.Path.{refl, subst}
+use mathlib.Core.List.{List}
+use Prim.Native.Nat.{ℕ}
 use native.Mathlib.Omega.{arith}
-use lib.ListN.{length}
-use Rattle.frame.specs.Frames.{frame_of}
+use Rattle.frame.specs.Frames.{frame_of, Stage}
 use Rattle.frame.proofs.correct_frame.Goals as goal
-
-pub returns-then-frame-ne-FRAME_BYTES : goal.returns-then-frame-ne-FRAME_BYTES
-returns-then-frame-ne-FRAME_BYTES c = inl (record { wrong = c.if-frame-ne-FRAME_BYTES.true; answers = refl; no_rows = refl; no_columns = refl; same = refl })
 
 pub returns : goal.returns
 returns c =
-    let columns = c.correct_columns-refused_columns in
     let rows = c.correct_rows-refused_rows in
-    let a = c.args in
-    let sized : length a.frame.now ≡ 9248 = omega arith in
+    let columns = c.correct_columns-refused_columns in
+    let whole = c.in-Some.ensures.cases in
     inr (record {
-      sized = sized;
+      sized = whole.long;
       after_rows = frame_of rows.new.frame;
-      rows = rows.ensures;
+      rows = subst (λ (bytes : List ℕ). Stage (frame_of bytes) (frame_of rows.new.frame) 272 rows.result) whole.same rows.ensures;
       columns = columns.ensures;
       answers = refl;
-      long = columns.auto.frame ∙ rows.auto.frame ∙ sized;
+      long = omega (arith, whole.long);
     })

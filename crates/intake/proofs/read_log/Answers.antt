@@ -1,12 +1,11 @@
 -- `intake::read_log`: what the end tells is what reading the bytes at once tells. Assumes nothing.
-use mathlib.Core.Path.{◌≡◌, sym, ap, ◌∙◌}
+use Rattle.std.proofs.Common.{◌≡◌, sym, ap, subst, ◌∙◌}
 use mathlib.Core.List.{flatten}
-use borrow.Author.Rules.{rules}
 use Rattle.logs.specs.declared.Fed.{Fed}
 use Rattle.logs.specs.declared.Reader.{Reader}
 use Rattle.logs.specs.Reader.{told_fed, whole_of, end_of}
 use Rattle.logs.specs.Pieces.{Reached}
-use Rattle.logs.proofs.Reached.{reached_end}
+use Rattle.logs.proofs.Reached.{reached_fresh, reached_end}
 use Rattle.intake.specs.Intake.{Came}
 use Rattle.intake.proofs.read_log.Goals as goal
 
@@ -19,5 +18,8 @@ came s end r e =
       read = sym (reached_end s r) ∙ ap whole_of (sym e);
     }
 
+pub loop-init : goal.loop-init
+loop-init g c = subst Reached (sym c.start-reader.ensures) reached_fresh
+
 pub returns : goal.returns
-returns g c = came _ c.end-end.result (search rules) c.end-end.ensures
+returns g c = came _ c.end-end.result c.loop.invariant c.end-end.ensures

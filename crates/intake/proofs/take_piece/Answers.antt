@@ -7,4 +7,4 @@ use Rattle.intake.proofs.take_piece.Goals as goal
 pub returns : goal.returns
 returns c =
     let known = c.type_inv.piece in
-    reached_next _ _ c.feed-fed.result (search rules) (bytes_each c.args.piece.now (λ k. omega (arith, known k))) c.feed-fed.ensures
+    reached_next _ _ c.feed.result (search rules) (bytes_each c.args.piece.now (λ k. omega (arith, known k))) c.feed.ensures

@@ -1,13 +1,16 @@
-use Rattle.summary.specs.Report.{reported_of, delivered}
-use Prim.Native.Nat.{ℕ}
-use mathlib.Core.List.{List}
-use mathlib.Core.Path.{◌∙◌, sym, ap}
+use Rattle.std.proofs.Common.{rules, arith, ◌≡◌, true, sym, ap, ◌∙◌}
+use Rattle.logs.specs.declared.Counts.{Counts}
+use Rattle.logs.specs.Log.{is_counts}
+use Rattle.summary.specs.Report.{report_of, delivered, reported_of}
+use Rattle.summary.proofs.Fits.{report_fits}
+use Rattle.summary.proofs.Texts.{told_whole}
 use Rattle.summary.proofs.report.Goals as goal
-
-pub returns-then-is_counts : goal.returns-then-is_counts
-unfolding reported_of
-returns-then-is_counts c = c.deliver.ensures ∙ ap (λ (l : List ℕ). delivered l c.args.out.now) c.report_text.ensures ∙ sym (rw (sym c.is_counts.ensures ∙ c.if-is_counts.true))
 
 pub returns : goal.returns
 unfolding reported_of
-returns c = sym (rw (sym c.is_counts.ensures ∙ c.if-is_counts.false))
+returns c =
+    let own = c.in_ok-accepted.accepted.counts in
+    let e : own ≡ c.args.counts = search rules in
+    let k : is_counts c.args.counts ≡ true = search rules in
+    told_whole c.args.out.now c.deliver.ensures c.new-text.ensures (omega (arith, report_fits own)) c.put_report.ensures
+    ∙ ap (λ (n : Counts). delivered (report_of n) c.args.out.now) e ∙ sym (rw k)

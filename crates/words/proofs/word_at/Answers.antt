@@ -1,4 +1,3 @@
-use borrow.Author.Rules.{rules}
 use native.Mathlib.Omega.{arith}
 use mathlib.Core.Path.{◌≡◌, ◌∙◌}
 use mathlib.Core.List.{List}
@@ -9,24 +8,23 @@ use Rattle.words.proofs.Bytes.{bit_of_zero, byte_more, byte_none}
 use Rattle.words.proofs.word_at.Goals as goal
 
 pub loop-j-init : goal.loop-j-init
-loop-j-init c = (search rules, λ k h. absurd (omega arith), λ k h. bit_of_zero k)
+loop-j-init c = (λ k h. absurd (omega arith), λ k h. bit_of_zero k)
 
 pub loop-j-preserved : goal.loop-j-preserved
 loop-j-preserved c =
     let h = c.loop-j in
     let a = c.args in
-    let x = c.wide.result in
-    let small : x < 2 ^ 8 = omega (arith, c.wide.ensures, c.type_inv.bytes (a.at + h.j)) in (
-      search rules,
-      byte_more (λ i. get_or a.bytes.now (a.at + i) 0) h.j h.word x (omega arith) c.wide.ensures small h.invariant.1 h.invariant.2,
-      byte_none (λ i. get_or a.bytes.now (a.at + i) 0) h.j h.word x (omega arith) c.wide.ensures small h.invariant.1 h.invariant.2,
+    let x = c.from.result in
+    let small : x < 2 ^ 8 = omega (arith, c.from.ensures, c.type_inv.bytes (a.at + h.j)) in (
+      byte_more (λ i. get_or a.bytes.now (a.at + i) 0) h.j h.word x (omega arith) c.from.ensures small h.invariant.0 h.invariant.1,
+      byte_none (λ i. get_or a.bytes.now (a.at + i) 0) h.j h.word x (omega arith) c.from.ensures small h.invariant.0 h.invariant.1,
     )
 
 pub returns : goal.returns
 returns c =
     let h = c.loop-j in
     let a = c.args in
-    (λ k g. h.invariant.1 k (omega arith) ∙ here a.bytes.now a.at k, λ k g. h.invariant.2 k (omega arith))
+    (λ k g. h.invariant.0 k (omega arith) ∙ here a.bytes.now a.at k, λ k g. h.invariant.1 k (omega arith))
   where
     here : (bytes : List ℕ) (at k : ℕ) → bit_of (get_or bytes (at + k / 8) 0) (k % 8) ≡ bit_in 8 bytes (8 * at + k)
     here bytes at k =

@@ -1,22 +1,16 @@
-use Prim.Native.Nat.{ℕ}
-use mathlib.Core.Path.{sym, ap, ◌∙◌}
-use mathlib.Core.Bool.{◌&&◌, and_assoc, and-true}
-use mathlib.Core.List.{List}
-use native.Mathlib.Omega.{arith}
-use lib.ListN.{drop_of_length-le}
-use Rattle.gf2.proofs.Lists.{drop_one}
-use Rattle.channel.specs.Layer4.{is_padding}
+-- `channel::layer4::padded`: the number of blocks, and the bytes from the end on are zero. Assumes nothing.
+use mathlib.Core.Path.{sym, ◌∙◌}
+use borrow.Author.Tests.{eq-eqb}
+use borrow.Author.Rules.{part_to_end}
+use lib.Dec.{eqb}
+use lib.ListN.{drop}
+use Rattle.std.proofs.Common.{rules, tests}
+use Rattle.std.proofs.lemmas.Iterator.{YieldsList-from_slice}
+use Rattle.std.proofs.lemmas.Iterator.Search.{all_from_yields_List}
 use Rattle.channel.proofs.layer4.padded.Goals as goal
 
-pub loop-i-init : goal.loop-i-init
-loop-i-init c = rw c.blocks_for.ensures
-
-pub loop-i-preserved : goal.loop-i-preserved
-loop-i-preserved c =
-    let s = c.args.bytes.now in
-    and_assoc c.loop-i.right _ _ ∙ sym (ap (λ (l : List ℕ). c.loop-i.right && is_padding l) (drop_one s c.loop-i.i 0 (omega arith))) ∙ c.loop-i.invariant
-
-pub returns : goal.returns
-returns c =
-    let l = c.loop-i in
-    sym (ap (λ (s : List ℕ). l.right && is_padding s) (drop_of_length-le c.args.bytes.now {i = l.i} (omega arith)) ∙ and-true l.right) ∙ l.invariant
+pub returns-then-blocks_for-bytes : goal.returns-then-blocks_for-bytes
+returns-then-blocks_for-bytes c =
+    let bytes = c.args.bytes.now in
+    all_from_yields_List (λ b. eqb b 0) _ _ c.all.result c.all.ensures.ran (YieldsList-from_slice (drop c.args.end bytes) (c.iter.ensures.rest ∙ part_to_end bytes c.args.end)) (λ x b q k. search (rules, tests))
+    ∙ sym (rw (sym c.blocks_for.ensures, eq-eqb _ _ c.if-blocks_for-bytes.true))

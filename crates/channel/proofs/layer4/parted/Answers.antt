@@ -5,4 +5,4 @@ use Rattle.channel.proofs.layer4.parted.Goals as goal
 pub returns : goal.returns
 returns c =
     let a = c.args in
-    parted_opened a.ext a.h a.size c.where_ext.result c.check.result c.reported.result c.requires.0 c.requires.3 c.reported.ensures c.where_ext.ensures.0 c.check.ensures
+    parted_opened a.ext a.h c.where_ext.result c.check.result c.reported.result c.requires c.reported.ensures c.where_ext.ensures.0 c.check.ensures

@@ -1,7 +1,6 @@
 -- `channel::layer4::read` makes the message's tests one by one. Assumes nothing.
 use mathlib.Core.Path.{sym, ◌∙◌}
 use native.Mathlib.Omega.{arith}
-use borrow.Author.Tests.{not-true, not-false}
 use Rattle.channel.proofs.Messages.{room, caf_set, wrong_check, wrong_form, too_long, wrong_padding, a_message}
 use Rattle.channel.proofs.layer4.read.Goals as goal
 
@@ -12,12 +11,11 @@ returns-then-opened c =
 pub returns-then-not-opened : goal.returns-then-not-opened
 returns-then-not-opened c =
     let o = c.header_at-opened.result in
-    wrong_check c.args.bytes.now o c.header_at-opened.ensures c.if-opened.false (not-true o.checked c.if-not-opened.true)
+    wrong_check c.args.bytes.now o c.header_at-opened.ensures c.if-opened.false c.if-not-opened.true
 
-pub returns-then-not-formed : goal.returns-then-not-formed
-returns-then-not-formed c =
-    let o = c.header_at-opened.result in
-    wrong_form c.args.bytes.now o c.header_at-opened.ensures c.if-opened.false (not-false c.header_at-opened.result.checked c.if-not-opened.false) (c.if-not-formed.true)
+pub returns-then-not-is_formed : goal.returns-then-not-is_formed
+returns-then-not-is_formed c =
+    wrong_form c.args.bytes.now c.header_at-opened.result c.header_at-opened.ensures c.if-opened.false c.if-not-opened.false (sym c.is_formed.ensures ∙ c.if-not-is_formed.true)
 
 pub overflow_add-end : goal.overflow_add-end
 overflow_add-end c =
@@ -25,14 +23,15 @@ overflow_add-end c =
 
 pub returns-then-end-gt-MOST_GATHERED : goal.returns-then-end-gt-MOST_GATHERED
 returns-then-end-gt-MOST_GATHERED c =
-    too_long c.args.bytes.now c.header_at-opened.result c.header_at-opened.ensures c.if-opened.false (not-false c.header_at-opened.result.checked c.if-not-opened.false) c.if-not-formed.false c.if-end-gt-MOST_GATHERED.true
+    too_long c.args.bytes.now c.header_at-opened.result c.header_at-opened.ensures c.if-opened.false c.if-not-opened.false (sym c.is_formed.ensures ∙ c.if-not-is_formed.false)
+    c.if-end-gt-MOST_GATHERED.true
 
 pub returns-then-not-padded : goal.returns-then-not-padded
 returns-then-not-padded c =
-    wrong_padding c.args.bytes.now c.header_at-opened.result c.header_at-opened.ensures c.if-opened.false (not-false c.header_at-opened.result.checked c.if-not-opened.false) c.if-not-formed.false c.if-end-gt-MOST_GATHERED.false
-    (sym c.padded.ensures ∙ c.if-not-padded.true)
+    wrong_padding c.args.bytes.now c.header_at-opened.result c.header_at-opened.ensures c.if-opened.false c.if-not-opened.false (sym c.is_formed.ensures ∙ c.if-not-is_formed.false)
+    c.if-end-gt-MOST_GATHERED.false (sym c.padded.ensures ∙ c.if-not-padded.true)
 
 pub returns : goal.returns
 returns c =
-    a_message c.args.bytes.now c.header_at-opened.result c.header_at-opened.ensures c.if-opened.false (not-false c.header_at-opened.result.checked c.if-not-opened.false) c.if-not-formed.false c.if-end-gt-MOST_GATHERED.false
-    (sym c.padded.ensures ∙ c.if-not-padded.false)
+    a_message c.args.bytes.now c.header_at-opened.result c.header_at-opened.ensures c.if-opened.false c.if-not-opened.false (sym c.is_formed.ensures ∙ c.if-not-is_formed.false)
+    c.if-end-gt-MOST_GATHERED.false (sym c.padded.ensures ∙ c.if-not-padded.false)

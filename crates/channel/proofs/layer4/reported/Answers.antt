@@ -5,4 +5,4 @@ use Rattle.channel.proofs.layer4.reported.Goals as goal
 pub returns : goal.returns
 returns c =
     let a = c.args in
-    taken_opened a.ext a.h a.size c.where_ext-upper.result c.requires.0 c.where_ext-upper.ensures.0
+    taken_opened a.ext a.h c.header_size-size.result c.where_ext-upper.result c.header_size-size.ensures c.where_ext-upper.ensures.0

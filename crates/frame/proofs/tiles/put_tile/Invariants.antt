@@ -1,12 +1,8 @@
 -- `frame::tiles::put_tile`: the bytes of the rows before j are put. Assumes nothing.
 use mathlib.Core.Path.{◌≡◌}
-use Prim.Native.Nat.{◌-◌, ◌≤◌}
 use lib.ListN.{length}
 use Rattle.frame.proofs.TiledFrames.{Putting}
 use Rattle.frame.proofs.tiles.put_tile.Given as goal
 
 abbrev pub invariant-loop-j : goal.invariant-loop-j
-invariant-loop-j l = (l.j ≤ 8) × (length l.frame ≡ length l.initial.frame) × Putting l.down l.along l.tile l.initial.frame l.frame l.j
-
-abbrev pub decreases-loop-j : goal.decreases-loop-j
-decreases-loop-j l = 8 - l.j
+invariant-loop-j l = (length l.frame ≡ length l.initial.frame) × Putting l.down l.along l.tile l.initial.frame l.frame l.j

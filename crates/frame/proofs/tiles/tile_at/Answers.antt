@@ -1,6 +1,4 @@
-use borrow.Author.Rules.{rules}
 use native.Mathlib.Omega.{arith}
-use mathlib.Core.Path.{refl}
 use Prim.Native.Nat.{◌^◌, ◌<◌}
 use lib.ListN.{get_or}
 use Rattle.words.proofs.Bytes.{bit_of_zero, byte_more, byte_none}
@@ -8,27 +6,21 @@ use Rattle.frame.proofs.TiledFrames.{tile_byte, taken}
 use Rattle.frame.proofs.tiles.tile_at.Goals as goal
 
 pub loop-j-init : goal.loop-j-init
-loop-j-init c = (search rules, λ k h. absurd (omega arith), λ k h. bit_of_zero k)
-
-pub overflow_cast-tile : goal.overflow_cast-tile
-overflow_cast-tile c =
-    let a = c.args in
-    omega (arith, c.type_inv.frame (tile_byte a.down a.along c.loop-j.j))
+loop-j-init c = (λ k h. absurd (omega arith), λ k h. bit_of_zero k)
 
 pub loop-j-preserved : goal.loop-j-preserved
 loop-j-preserved c =
     let h = c.loop-j in
     let a = c.args in
     let byte = tile_byte a.down a.along in
-    let x = get_or a.frame.now (byte h.j) 0 in
-    let small : x < 2 ^ 8 = omega (arith, c.type_inv.frame (byte h.j)) in (
-      search rules,
-      byte_more (λ i. get_or a.frame.now (byte i) 0) h.j h.tile x (omega arith) refl small h.invariant.1 h.invariant.2,
-      byte_none (λ i. get_or a.frame.now (byte i) 0) h.j h.tile x (omega arith) refl small h.invariant.1 h.invariant.2,
+    let x = c.from.result in
+    let small : x < 2 ^ 8 = omega arith in (
+      byte_more (λ i. get_or a.frame.now (byte i) 0) h.j h.tile x (omega arith) c.from.ensures small h.invariant.0 h.invariant.1,
+      byte_none (λ i. get_or a.frame.now (byte i) 0) h.j h.tile x (omega arith) c.from.ensures small h.invariant.0 h.invariant.1,
     )
 
 pub returns : goal.returns
 returns c =
     let h = c.loop-j in
     let a = c.args in
-    taken a.frame.now a.down a.along h.tile (omega arith) (λ k l. h.invariant.1 k (omega arith))
+    taken a.frame.now a.down a.along h.tile (omega arith) (λ k l. h.invariant.0 k (omega arith))

@@ -1,14 +1,11 @@
 -- `frame::tiles::tile_at`: the bytes of the rows before j are in their places, and nothing is behind them. Assumes nothing.
 use mathlib.Core.Path.{◌≡◌}
 use mathlib.Core.Bool.{false}
-use Prim.Native.Nat.{ℕ, ◌-◌, ◌*◌, ◌/◌, ◌%◌, ◌<◌, ◌≤◌}
+use Prim.Native.Nat.{ℕ, ◌*◌, ◌/◌, ◌%◌, ◌<◌, ◌≤◌}
 use lib.ListN.{get_or}
 use Rattle.words.specs.Bytes.{bit_of}
 use Rattle.frame.proofs.TiledFrames.{tile_byte}
 use Rattle.frame.proofs.tiles.tile_at.Given as goal
 
 abbrev pub invariant-loop-j : goal.invariant-loop-j
-invariant-loop-j l = (l.j ≤ 8) × ((k : ℕ) → k < 8 * l.j → bit_of l.tile k ≡ bit_of (get_or l.frame (tile_byte l.down l.along (k / 8)) 0) (k % 8)) × ((k : ℕ) → 8 * l.j ≤ k → bit_of l.tile k ≡ false)
-
-abbrev pub decreases-loop-j : goal.decreases-loop-j
-decreases-loop-j l = 8 - l.j
+invariant-loop-j l = ((k : ℕ) → k < 8 * l.j → bit_of l.tile k ≡ bit_of (get_or l.frame (tile_byte l.down l.along (k / 8)) 0) (k % 8)) × ((k : ℕ) → 8 * l.j ≤ k → bit_of l.tile k ≡ false)

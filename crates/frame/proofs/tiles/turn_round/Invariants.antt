@@ -1,12 +1,8 @@
 -- `frame::tiles::turn_round`: the tiles before t are turned round. Assumes nothing.
 use mathlib.Core.Path.{◌≡◌}
-use Prim.Native.Nat.{◌-◌, ◌≤◌}
 use lib.ListN.{length}
 use Rattle.frame.proofs.TiledFrames.{Turning}
 use Rattle.frame.proofs.tiles.turn_round.Given as goal
 
 abbrev pub invariant-loop-t : goal.invariant-loop-t
-invariant-loop-t l = (l.t ≤ 1156) × (length l.turned ≡ 9248) × Turning l.frame l.turned l.t
-
-abbrev pub decreases-loop-t : goal.decreases-loop-t
-decreases-loop-t l = 1156 - l.t
+invariant-loop-t l = (length l.turned ≡ 9248) × Turning l.frame l.turned l.t

@@ -1,32 +1,33 @@
+use Rattle.std.proofs.Common.{◌∙◌, ap, sym, arith}
+use Rattle.std.proofs.lemmas.List.{nil_from_length}
+use Rattle.std.proofs.lemmas.Bool.{eq-eqb, ne_eqb}
+use mathlib.Core.Bool.{and-true, and-false}
 use Rattle.text.specs.Fields.{same_as}
-use Rattle.logs.proofs.Lines.{digit_here, digits_out, one_digit}
-use Rattle.logs.specs.Decimal.{decimal}
-use Prim.Native.Nat.{ℕ}
-use mathlib.Core.Path.{sym, ◌∙◌, ap}
-use mathlib.Core.Bool.{and-false, and-true}
-use borrow.Author.Tests.{ne_eqb, eq-eqb}
-use native.Mathlib.Omega.{arith}
-use lib.Seq.{take_all}
-use lib.ListN.{length, take}
+use Rattle.logs.proofs.Lines.{digit_last, digits_out}
+use Rattle.logs.proofs.Decimal.{decimal_few}
 use Rattle.logs.proofs.line.spells.Goals as goal
 
-pub loop-rest-init : goal.loop-rest-init
-loop-rest-init c = (omega arith, omega (arith, c.ranges.number.fits), rw (take_all (length c.args.text.now) c.args.text.now (omega arith)))
+pub returns-in_default : goal.returns-in_default
+returns-in_default c =
+    let p = c.loop-number in
+    let none = nil_from_length p.text.now c.in_default.ensures.cases in
+    let out = digits_out p.number c.loop-number-test.true p.invariant.0 in
+    let same = p.invariant.1 in
+    cc
 
-pub returns-then-i-eq0 : goal.returns-then-i-eq0
-returns-then-i-eq0 c =
-    let p = c.loop-rest in let t = c.args.text.now in
-    sym (p.invariant.2 ∙ ap (λ (j : ℕ). same_as (take j t) (decimal p.rest)) c.if-i-eq0.true ∙ digits_out t p.rest (omega arith) (omega arith))
+pub returns-then-last-number : goal.returns-then-last-number
+returns-then-last-number c =
+    let p = c.loop-number in
+    let s = c.in-Some in
+    sym (p.invariant.1 ∙ rw (s.ensures.cases.0, digit_last s.front.now s.last.now p.number c.loop-number-test.true p.invariant.0, ne_eqb _ _ c.if-last-number.true) (and-false _))
 
-pub returns-then-text-i : goal.returns-then-text-i
-returns-then-text-i c =
-    let p = c.loop-rest in
-    sym (p.invariant.2 ∙ digit_here _ p.i p.rest (omega arith) (omega arith) (omega arith) (omega arith) ∙ rw (ne_eqb _ _ c.if-text-i.true, and-false))
-
-pub loop-rest-preserved : goal.loop-rest-preserved
-loop-rest-preserved c =
-    let p = c.loop-rest in
-    (omega arith, omega arith, p.invariant.2 ∙ digit_here _ p.i p.rest (omega arith) (omega arith) (omega arith) (omega arith) ∙ rw (eq-eqb _ _ c.if-text-i.false) (and-true _))
+pub loop-number-preserved : goal.loop-number-preserved
+loop-number-preserved c =
+    let p = c.loop-number in
+    let s = c.in-Some in
+    (omega arith, p.invariant.1 ∙ rw (s.ensures.cases.0, digit_last s.front.now s.last.now p.number c.loop-number-test.true p.invariant.0, eq-eqb _ _ c.if-last-number.false) (and-true _))
 
 pub returns : goal.returns
-returns c = let p = c.loop-rest in sym (p.invariant.2 ∙ one_digit _ p.i p.rest (omega arith) (omega arith) (omega arith))
+returns c =
+    let p = c.loop-number in
+    c.eq.ensures ∙ ap (same_as p.text.now) (c.as_slice.ensures ∙ sym (decimal_few p.number (omega arith))) ∙ sym p.invariant.1

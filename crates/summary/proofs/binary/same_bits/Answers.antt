@@ -1,12 +1,8 @@
-use Rattle.summary.proofs.Same.{ne_nan, eq_number, measured_number, nan_bits}
-use mathlib.Core.Path.{sym}
+use Rattle.std.proofs.Common.{sym, ◌∙◌, ap}
+use mathlib.Core.Bool.{not}
+use Rattle.summary.proofs.Same.{nan_is, nan_bits}
 use Rattle.summary.proofs.binary.same_bits.Goals as goal
 
-pub float_to_bits-result : goal.float_to_bits-result
-float_to_bits-result c = eq_number c.args.given c.if-given.false
-
-pub returns-then-given : goal.returns-then-given
-returns-then-given c = sym (nan_bits c.args.given c.args.own (ne_nan c.args.given c.if-given.true) c.requires)
-
-pub float_to_bits-result-2 : goal.float_to_bits-result-2
-float_to_bits-result-2 c = measured_number c.args.own c.requires
+pub returns-else-not-is_nan : goal.returns-else-not-is_nan
+returns-else-not-is_nan c =
+    ap not c.if-not-is_nan.false ∙ sym (nan_bits c.args.given c.args.own (nan_is c.args.given (sym c.is_nan.ensures.value ∙ c.if-not-is_nan.false)) c.requires)

@@ -1,21 +1,18 @@
-use Prim.Native.Nat.{◌+◌, ◌-◌}
-use mathlib.Core.Path.{ap, ◌∙◌}
-use native.Mathlib.Omega.{arith}
-use lib.ListN.{length-drop}
-use Rattle.text.proofs.Laws.{tail, field_behind, field_none}
-use Rattle.text.specs.Fields.{field_of}
+use Rattle.std.proofs.Common.{rules, tests, ◌≡◌, ℕ, List, [], Option, None, Some, Bor, refl, eqb, ap, ◌∙◌}
+use Rattle.std.specs.Option.{unwrap_or, option_map}
+use Rattle.std.proofs.lemmas.Option.{unwrap_or-slice_get}
+use Rattle.std.proofs.lemmas.Iterator.Consumers.{nth_from_yields_List}
+use Rattle.std.proofs.lemmas.Iterator.Splits.{YieldsList-from_slice_split}
+use Rattle.text.proofs.Laws.{field_get, parts_of}
+use Rattle.text.specs.Ascii.{tab}
 use Rattle.text.proofs.fields.field.Goals as goal
 
-pub returns-then-rest-skipped : goal.returns-then-rest-skipped
-returns-then-rest-skipped c =
-    let s = c.loop-left.rest.now in
-    let n = c.find-skipped.result in
-    tail s n ∙ field_none c.loop-left.left s n c.find-skipped.ensures.first (omega arith) c.if-rest-skipped.true ∙ c.loop-left.invariant.1
+now_of : (o : Option (Bor (List ℕ))) (d : Bor (List ℕ)) → (unwrap_or o d).now ≡ unwrap_or (option_map (λ x. x.now) o) d.now
+now_of None d = refl
+now_of (Some x) d = refl
 
-pub loop-left-preserved : goal.loop-left-preserved
-loop-left-preserved c =
-    let s = c.loop-left.rest.now in
-    let n = c.find-skipped.result in (
-      rw (tail s (n + 1), length-drop) (omega arith),
-      ap (field_of (c.loop-left.left - 1)) (tail s (n + 1)) ∙ field_behind c.loop-left.left s n c.find-skipped.ensures.first (omega arith) ∙ c.loop-left.invariant.1,
-    )
+pub returns : goal.returns
+returns c =
+    let line = c.args.line.now in
+    let got = nth_from_yields_List _ _ c.args.index c.nth.ensures.ran (YieldsList-from_slice_split _ (λ b. eqb b tab) line c.split.ensures.rest c.split.ensures.done c.split.ensures.closure (λ x b q h. search (rules, tests))) in
+    ap (λ x. x.now) c.unwrap_or.ensures ∙ now_of c.nth.result _ ∙ ap (λ o. unwrap_or o []) got ∙ unwrap_or-slice_get (parts_of line) c.args.index [] ∙ field_get c.args.index line

@@ -2,7 +2,7 @@
 use mathlib.Core.Path.{◌≡◌}
 use mathlib.Core.Bool.{Bool, false}
 use mathlib.Core.List.{List}
-use Prim.Native.Nat.{ℕ, ◌+◌, ◌-◌, ◌*◌, ◌^◌, ◌<◌, ◌≤◌}
+use Prim.Native.Nat.{ℕ, ◌+◌, ◌*◌, ◌^◌, ◌<◌, ◌≤◌}
 use lib.ListN.{length, get_or, drop}
 use Rattle.code.specs.Code.{ones}
 use Rattle.code.specs.Vote.{bit_at}
@@ -12,8 +12,5 @@ use Rattle.words.proofs.votes.turn.Given as goal
 
 abbrev pub invariant-loop-i : goal.invariant-loop-i
 invariant-loop-i l =
-    (l.i ≤ 5) × (l.count ≤ 8) × (length l.changed ≡ 5) × ((j : ℕ) → get_or l.changed j 0 < 2 ^ 64) × ((p : ℕ) → 64 * l.i ≤ p → bit_in 64 l.changed p ≡ false)
-    × ((sums : List Bool) → Round l.round sums → (l.count + ones (drop (64 * l.i) (turned sums)) ≡ ones (turned sums)) × ((p : ℕ) → p < 64 * l.i → bit_in 64 l.changed p ≡ bit_at (turned sums) p))
-
-abbrev pub decreases-loop-i : goal.decreases-loop-i
-decreases-loop-i l = 5 - l.i
+    (l.count ≤ 8) × (length l.changed ≡ 5) × ((j : ℕ) → get_or l.changed j 0 < 2 ^ 64) × ((p : ℕ) → 64 * l.i ≤ p → bit_in 64 l.changed p ≡ false)
+    × ((sums : List Bool) → Round l.circle.words sums → (l.count + ones (drop (64 * l.i) (turned sums)) ≡ ones (turned sums)) × ((p : ℕ) → p < 64 * l.i → bit_in 64 l.changed p ≡ bit_at (turned sums) p))

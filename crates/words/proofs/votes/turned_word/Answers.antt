@@ -4,7 +4,7 @@ use native.Mathlib.Nat.{zero-add}
 use mathlib.Core.Path.{◌≡◌, refl, sym, ap, ◌∙◌}
 use mathlib.Core.List.{List}
 use Prim.Native.Nat.{ℕ, ◌+◌, ◌-◌, ◌*◌, ◌<◌}
-use lib.Dec.{leb, lit≤, lit<}
+use lib.Dec.{leb, lit<}
 use lib.ListN.{get_or, drop}
 use Rattle.gf2.specs.Poly.{bit}
 use Rattle.gf2.proofs.Bits.{bit_lt}
@@ -26,17 +26,14 @@ met_at ws i k l positions e h =
 pub met-requires : goal.met-requires
 met-requires c =
     let s = position_inside _ 0 c.check_positions-positions.ensures (lit< tt) in
-    (search rules, search rules, s.on, s.back)
+    (search rules, s.on, s.back)
 
-pub loop-l-init : goal.loop-l-init
-loop-l-init c =
+pub loop-pair-init : goal.loop-pair-init
+loop-pair-init c =
     let a = c.args in
-    let ws = a.round.now in
+    let ws = a.circle.now.words in
     let m = c.met in
     let positions = c.check_positions-positions in (
-      lit≤ tt,
-      refl,
-      positions.ensures,
       λ k h. omega (arith, c.first-counts.ensures k, bit_lt (bit_of m.result k)),
       λ k h. let f : ℕ → ℕ = λ s. bit (bit_in 64 ws (64 * a.i + k + 273 - s)) in
           ap (λ (n : ℕ). n + sum_over f (drop 1 check_positions)) (sym (zero-add (counted c.first-counts.result k)))
@@ -44,48 +41,46 @@ loop-l-init c =
           (c.first-counts.ensures k ∙ ap bit (m.ensures k h ∙ met_at ws a.i k 0 positions.result positions.ensures (lit< tt))),
     )
 
-pub met-requires-in-loop-l : goal.met-requires-in-loop-l
-met-requires-in-loop-l c =
-    let h = c.loop-l in
-    let s = position_inside _ h.l h.invariant.2 (omega arith) in
-    (search rules, search rules, s.on, s.back)
+pub met-requires-in-loop-pair : goal.met-requires-in-loop-pair
+met-requires-in-loop-pair c =
+    let s = position_inside _ (2 * c.loop-pair.pair + 1) c.check_positions-positions.ensures (omega arith) in
+    (search rules, s.on, s.back)
 
-pub met-requires-in-loop-l-2 : goal.met-requires-in-loop-l-2
-met-requires-in-loop-l-2 c =
-    let h = c.loop-l in
-    let s = position_inside _ (h.l + 1) h.invariant.2 (omega arith) in
-    (search rules, search rules, s.on, s.back)
+pub met-requires-in-loop-pair-2 : goal.met-requires-in-loop-pair-2
+met-requires-in-loop-pair-2 c =
+    let s = position_inside _ (2 * c.loop-pair.pair + 2) c.check_positions-positions.ensures (omega arith) in
+    (search rules, s.on, s.back)
 
-pub loop-l-preserved : goal.loop-l-preserved
-loop-l-preserved c =
-    let h = c.loop-l in
+pub loop-pair-preserved : goal.loop-pair-preserved
+loop-pair-preserved c =
+    let h = c.loop-pair in
+    let l = 2 * h.pair + 1 in
     let a = c.args in
-    let ws = a.round.now in
-    let u = c.met-in-loop-l in
-    let v = c.met-in-loop-l-2 in
-    let more : (k : ℕ) → k < 64 → counted c.add_two-counts.result k ≡ counted h.counts k + bit (bit_of u.result k) + bit (bit_of v.result k) =
-    λ k g. c.add_two-counts.ensures k (omega (arith, h.invariant.3 k g)) in (
-      search rules,
-      omega arith,
-      h.invariant.2,
-      λ k g. omega (arith, more k g, h.invariant.3 k g, bit_lt (bit_of u.result k), bit_lt (bit_of v.result k)),
+    let ws = a.circle.now.words in
+    let u = c.met-in-loop-pair in
+    let v = c.met-in-loop-pair-2 in
+    let positions = c.check_positions-positions in
+    let more : (k : ℕ) → k < 64 → counted c.with_two-counts.result k ≡ counted h.counts k + bit (bit_of u.result k) + bit (bit_of v.result k) =
+    λ k g. c.with_two-counts.ensures k (omega (arith, h.invariant.0 k g)) in (
+      λ k g. omega (arith, more k g, h.invariant.0 k g, bit_lt (bit_of u.result k), bit_lt (bit_of v.result k)),
       λ k g. let f : ℕ → ℕ = λ s. bit (bit_in 64 ws (64 * a.i + k + 273 - s)) in
           let n = counted h.counts k in
           let x = bit (bit_of u.result k) in
           let y = bit (bit_of v.result k) in
-          let next : h.l + 2 ≡ h.l + 1 + 1 = omega arith in
-          ap (λ (m : ℕ). m + sum_over f (drop (h.l + 2) check_positions)) (more k g)
+          let next : 2 * (h.pair + 1) + 1 ≡ l + 1 + 1 = omega arith in
+          let second : 2 * h.pair + 2 ≡ l + 1 = omega arith in
+          ap (λ (m : ℕ). m + sum_over f (drop (2 * (h.pair + 1) + 1) check_positions)) (more k g)
           ∙ ap (λ (m : ℕ). n + x + y + sum_over f (drop m check_positions)) next
-          ∙ sum_turn f check_positions (h.l + 1) (n + x) (sum_over f check_positions)
-          (sum_turn f check_positions h.l n (sum_over f check_positions) (h.invariant.4 k g) x (omega (arith, positions_length)) (ap bit (u.ensures k g ∙ met_at ws a.i k h.l _ h.invariant.2 (omega arith))))
-          y (omega (arith, positions_length)) (ap bit (v.ensures k g ∙ met_at ws a.i k (h.l + 1) _ h.invariant.2 (omega arith))),
+          ∙ sum_turn f check_positions (l + 1) (n + x) (sum_over f check_positions)
+          (sum_turn f check_positions l n (sum_over f check_positions) (h.invariant.1 k g) x (omega (arith, positions_length)) (ap bit (u.ensures k g ∙ met_at ws a.i k l _ positions.ensures (omega arith))))
+          y (omega (arith, positions_length)) (ap bit (v.ensures k g ∙ met_at ws a.i k (2 * h.pair + 2) _ positions.ensures (omega arith) ∙ ap (λ (m : ℕ). bit_in 64 ws (64 * a.i + k + 273 - get_or check_positions m 0)) second)),
     )
 
 pub returns : goal.returns
 returns c =
-    let h = c.loop-l in
+    let h = c.loop-pair in
     let a = c.args in
-    let ws = a.round.now in
+    let ws = a.circle.now.words in
     λ sums twice k g on. c.nine.ensures k
-    ∙ ap (leb majority) (sum_end (λ s. bit (bit_in 64 ws (64 * a.i + k + 273 - s))) check_positions h.l (counted h.counts k) _ (h.invariant.4 k g) (omega (arith, positions_length))
+    ∙ ap (leb majority) (sum_end (λ s. bit (bit_in 64 ws (64 * a.i + k + 273 - s))) check_positions (2 * h.pair + 1) (counted h.counts k) _ (h.invariant.1 k g) (omega (arith, positions_length))
     ∙ meet_round ws sums twice (64 * a.i + k) on)

@@ -1,9 +1,0 @@
--- `words::circle::twice`: five words as they are, the seam, and four parts. Assumes nothing.
-use Rattle.words.proofs.Rounds.{laid}
-use Rattle.words.proofs.circle.twice.Goals as goal
-
-pub returns : goal.returns
-returns c =
-    let row = c.args.row.now in
-    λ bits l lies. laid row bits l lies c.part.result c.part-2.result c.part-3.result c.part-4.result
-    c.part.ensures c.part-2.ensures c.part-3.ensures c.part-4.ensures

@@ -1,6 +1,0 @@
--- `words::votes::nine`: the threshold. Assumes nothing.
-use Rattle.words.proofs.Counts.{counted_nine}
-use Rattle.words.proofs.votes.nine.Goals as goal
-
-pub returns : goal.returns
-returns c = λ k. counted_nine _ k
