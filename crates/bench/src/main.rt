@@ -26,9 +26,10 @@ fn main(rt: HostRuntime) {
     let mut written = room();
     let size = match argument(&rt, 1, &mut task) {
         Some([_, size @ ..]) => number(size),
-        _ => 0,
+        _ => None,
     };
-    let count = argument(&rt, 2, &mut digits).map_or(0, number);
+    let size = size.unwrap_or(0);
+    let count = argument(&rt, 2, &mut digits).and_then(number).unwrap_or(0);
     let input = read_into(&mut records, &mut rt.reader());
     let sum = take(task[0], size, input, &mut written, count);
     // bench/run sees that a sum is missing.
@@ -61,12 +62,12 @@ fn argument<'a, R: Env>(rt: &R, index: usize, room: &'a mut [u8]) -> Option<&'a 
     Some(&room[..length])
 }
 
-// 0 for what is no number.
-fn number(digits: &[u8]) -> usize {
-    text::read_number(digits, u32::MAX).map_or(0, |number| number as usize)
+fn number(digits: &[u8]) -> Option<usize> {
+    text::read_number(digits, u32::MAX).map(|number| number as usize)
 }
 
-// `size` is that of a piece, and `written` is room for what comes of blocks and frames.
+// `size` is that of a piece, and `written` is room for what comes of blocks and frames. One match and no table of functions, as
+// each takes what it needs of these.
 fn take(task: u8, size: usize, input: &[u8], written: &mut [u8], count: usize) -> u32 {
     match task {
         b'c' => blocks::correct(input, written, count),

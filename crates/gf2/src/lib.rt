@@ -5,14 +5,14 @@
 ghost use Rattle.std.specs.Prelude.{◌≡◌, ◌-◌, ◌<◌, ◌≤◌, length};
 ghost use Rattle.gf2.specs.Poly.{bit, ◌⊕◌, add, divided, lower};
 
-// A bit as a number: `u64::from`, with the promise that it is the field's own 0 or 1.
+// A bit as a number: `u64::from`, with its public promise (`bit`).
 pub fn number(b: bool) -> u64
     ensures { (result ≡ bit b) × (result < 2) }
 {
     u64::from(b)
 }
 
-// The sum of two bits: `^`, with the promise that it is the field's own sum.
+// The sum of two bits: `^`, with its public promise (`⊕`).
 pub fn sum(a: bool, b: bool) -> bool
     ensures { result ≡ a ⊕ b }
 {

@@ -19,7 +19,7 @@ pub enum Phase {
 }
 
 // A group of one service number: the bytes held and the messages joined so far, and of the message last joined on its CI
-// and the length of its data.
+// and the length of its data. Numbers beside a lent buffer, as document 01 has it.
 #[derive(Clone, Copy)]
 pub struct Group {
     pub number: u16,

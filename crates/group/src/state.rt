@@ -23,7 +23,8 @@ impl Group {
         }
     }
 
-    // Takes one message: the tests in order, and its data joined on.
+    // Takes one message: the tests in order, and its data joined on. Fields and data stay two parameters, here and below: the
+    // definitions speak of both by name, and a struct of the two would only be taken apart again.
     pub(crate) fn take(
         &mut self,
         message: Fields,

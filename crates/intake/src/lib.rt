@@ -31,7 +31,7 @@ pub fn read_log<R: Input>(rt: &R, room: &mut [u8]) -> Intake
     let mut input = rt.reader();
     let mut reader = logs::start();
     let mut cause = None;
-    // A proved loop has to end, so this one turns at most as often as no run does.
+    // A proved loop has to end: no input comes in so many pieces.
     for _ in 0..u64::MAX {
         match input.read(room) {
             Ok(0) => break,

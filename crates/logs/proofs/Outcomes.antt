@@ -144,3 +144,19 @@ judged_before c l e =
     (λ z. cond_with (λ (o : Option Counts). IfSome o (λ d. is_before d ≡ true)) (is_next c.slots l)
     (λ n. let t = next c.slots l n in counted_before c (last l) t.outcome t.few z e)
     (λ n. tt))
+
+-- before the first line nothing is counted
+pub none_before : (c : Counts) → is_before c ≡ true → eqb c.channel 0 ≡ true → c ≡ tuned 0
+unfolding is_before
+none_before c b e =
+    let a = (and-eq-true_iff (is_sound c) (cond (eqb c.channel 0) (eqb c.slots 0) (is_channel c.channel))).0 b in
+    let s = sound c a.0 in
+    let n : c.slots ≡ 0 = eqb-true c.slots 0 (rw e at a.1) in
+    let h : c.channel ≡ 0 = eqb-true c.channel 0 e in
+    let read : c.read ≡ 0 = omega (arith, s.each) in
+    let clean : c.clean ≡ 0 = omega (arith, s.clean) in
+    let bits : c.bits ≡ 0 = omega (arith, s.most) in
+    let noword : c.noword ≡ 0 = omega (arith, s.each) in
+    let check : c.check ≡ 0 = omega (arith, s.each) in
+    let missing : c.missing ≡ 0 = omega (arith, s.each) in
+    λ i. record { channel = h i; slots = n i; read = read i; clean = clean i; bits = bits i; noword = noword i; check = check i; missing = missing i }

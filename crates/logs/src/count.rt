@@ -85,7 +85,8 @@ impl Counts {
     }
 }
 
-// `0` to `8`, `n`, `c` or `-`. No test waits for another, since no processor foresees which of them holds.
+// `0` to `8`, `n`, `c` or `-`. No test waits for another, since no processor foresees which of them holds:
+// with `||` a log takes a sixth more time.
 #[tactic(auto, unfolding(crate::specs::Log::is_outcome))]
 pub(crate) fn is_outcome(outcome: u8) -> bool
     ensures { result ≡ is_outcome outcome }

@@ -115,7 +115,7 @@ impl Argument for f64 {
     }
 }
 
-// Without the sign, all ones in the exponent and something behind it is no number.
+// Without the sign, all ones in the exponent and something behind it is no number, of which `f64::from_bits` takes none.
 fn number_of(bits: u64) -> f64 {
     if 0x7ff0_0000_0000_0000 < bits % 0x8000_0000_0000_0000 {
         f64::NAN

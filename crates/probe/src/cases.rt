@@ -1,4 +1,4 @@
-// Answers a case, by the function of its command.
+// Answers a case, by the function of its command. One match and no table of functions, which would have to be searched.
 use crate::arguments::{Arguments, Unanswered};
 use crate::{blocks, frames, groups, messages, readers, surveys};
 use std::alloc::Global;

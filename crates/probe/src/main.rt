@@ -48,6 +48,7 @@ fn main(rt: HostRuntime) {
 fn answer_all<R: Input + Print + AllocGlobal>(rt: &R) -> Result<(), Failure> {
     let mut input = BufReader::new(rt.alloc(), rt.reader()).map_err(|_| Failure::OutOfMemory)?;
     let mut line = Vec::with_capacity(rt.alloc(), LINE).map_err(|_| Failure::OutOfMemory)?;
+    // A proved loop has to end: no input has so many lines.
     for _ in 0..u64::MAX {
         let ended = read_line(&mut input, &mut line).map_err(|_| Failure::Input)?;
         if ended || !line.is_empty() {
@@ -61,7 +62,7 @@ fn answer_all<R: Input + Print + AllocGlobal>(rt: &R) -> Result<(), Failure> {
 }
 
 // Reads a line without its line feed, and tells whether there was one. The empty line, which is no case either, stands for
-// one that is too long.
+// one that is too long: so nobody has to tell the two apart.
 fn read_line<B: BufRead>(input: &mut B, line: &mut Vec<u8>) -> io::Result<bool> {
     line.clear();
     input.by_ref().take(LINE as u64).read_until(b'\n', line)?;

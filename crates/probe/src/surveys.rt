@@ -19,7 +19,9 @@ const NONE: Summary = Summary {
 pub(crate) fn khz(mut arguments: Arguments<'_>) -> Result<String, Unanswered> {
     let number = arguments.number::<u16>()?;
     arguments.end()?;
-    let told = Channel::try_from(u32::from(number)).and_then(Kilohertz::try_from);
+    // Where the number is refused, the reserved channel 0 is asked for, so that its refusal is tested too.
+    let channel = Channel::try_from(u32::from(number)).unwrap_or(Channel(0));
+    let told = Kilohertz::try_from(channel);
     let outcome = Outcome("khz", &told);
     let kilohertz = told.map_or(0, |kilohertz| kilohertz.0);
     Ok(format!(in arguments.alloc; "{outcome}\t{kilohertz}")?)

@@ -5,7 +5,7 @@ ghost use Rattle.text.specs.Fields.{same_as, tabs, field_of};
 
 use memchr::memchr;
 
-// Whether a and b hold the same bytes: `==`, with the promise that laws of `same_as` stand on.
+// Whether a and b hold the same bytes: `==`, with its public promise (`same_as`).
 pub fn same(a: &[u8], b: &[u8]) -> bool
     ensures { result ≡ same_as a.now b.now }
 {
@@ -27,7 +27,8 @@ pub fn arguments(line: &[u8]) -> usize
     line.iter().filter(|byte| **byte == b'\t').count()
 }
 
-// The field with an index, 0 for the command; where the line has no such field, nothing.
+// The field with an index, 0 for the command; where the line has no such field, nothing, as `field_of` has it: an argument
+// that is empty can't be read either.
 pub fn field(line: &[u8], index: usize) -> &[u8]
     ensures { result.now ≡ field_of index line.now }
 {

@@ -32,7 +32,8 @@ pub struct Found {
     pub count: u8,
 }
 
-// The words of the 34 bytes of a block. For another number of bytes they are zero.
+// The words of the 34 bytes of a block. For another number of bytes they are zero, as `OfBytes` has it: no Option, since a
+// caller that has tested the length would have to take it apart.
 pub fn of_bytes(bytes: &[u8]) -> [u64; BLOCK_WORDS]
     ensures { OfBytes bytes.now result }
 {
@@ -48,7 +49,8 @@ pub fn of_bytes(bytes: &[u8]) -> [u64; BLOCK_WORDS]
     ]
 }
 
-// Fills `out` with the leading bytes of a row. More than 34 bytes are left as they were.
+// Fills `out` with the leading bytes of a row. More than 34 bytes are left as they were, as `FilledBytes` has it: no Result, for
+// the same reason.
 pub fn fill_bytes(row: [u64; BLOCK_WORDS], out: &mut [u8])
     ensures { FilledBytes row out.old out.new }
 {

@@ -91,7 +91,8 @@ pub(crate) fn turn(circle: &Circle) -> Option<Turned>
     })
 }
 
-// The bits of a word that are positions of the block: the left-off one, and what is behind it, is never turned.
+// The bits of a word that are positions of the block: the left-off one, and what is behind it, is never turned. That the index is
+// one of five words is asked for by each that takes it: a range that a loop counts, for which a type would be no plainer.
 fn within(i: usize) -> u64
     requires { i < 5 }
     ensures { (k : ℕ) → k < 64 → bit_of result k ≡ ltb (64 * i + k) 272 }

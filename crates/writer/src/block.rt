@@ -36,7 +36,7 @@ impl BlockFields {
     }
 }
 
-// Cuts twenty bytes a block, LF in the last, SC stepping on.
+// Cuts twenty bytes a block, LF in the last, SC stepping on. By number, since the place of each block in the output is counted too.
 pub(crate) fn put_blocks(bytes: &[u8], di: bool, sc: u8, output: &mut [u8])
     requires { (22 * (length bytes.now / 20) ≤ length output.old) × (sc < 16) }
     ensures { output.new ≡ flat (cut (length bytes.now / 20) di sc bytes.now) ++ drop (22 * (length bytes.now / 20)) output.old }
