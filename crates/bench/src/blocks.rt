@@ -3,7 +3,7 @@ use crate::records;
 use answers::Refusal;
 use block::{BLOCK_BYTES, BLOCK_WORDS, Corrected, INFORMATION_BYTES, Unread};
 
-// What is told of a block in which nothing was corrected.
+// What is told of a block in which nothing was corrected. The library has no such value, so that nobody takes it for a reading.
 const NONE: Corrected = Corrected {
     count: 0,
     changed: [0; BLOCK_WORDS],

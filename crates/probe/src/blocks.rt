@@ -5,7 +5,7 @@ use answers::Refusal;
 use block::{BLOCK_WORDS, Corrected, Unread};
 use std::alloc::{AllocError, Global};
 
-// What is told of a block in which nothing was corrected.
+// What is told of a block in which nothing was corrected. The library has no such value, so that nobody takes it for a reading.
 const NONE: Corrected = Corrected {
     count: 0,
     changed: [0; BLOCK_WORDS],

@@ -114,6 +114,8 @@ fn write_log<F: FnOnce(Counts, &mut [u8]) -> Result<usize, Refusal>>(
     }
 }
 
+// The row of some counts under the names of its fields. It begins and ends as `report` and `export` do; one function for that, with a
+// closure for what is put between, would be no plainer.
 #[tactic(auto, unfolding(crate::specs::Export::sheet_of))]
 fn sheet(counts: Counts, out: &mut [u8]) -> Result<usize, Refusal>
     ensures { told_text result out.new ≡ sheet_of counts out.old }
