@@ -13,7 +13,8 @@ use Rattle.answers.specs.Rules.{unless}
 use Rattle.answers.proofs.Rules.{unless_and}
 use Rattle.header.specs.Header.{total, holds}
 use Rattle.channel.specs.Answers.{refused, ChannelAfter, channel_after}
-use Rattle.channel.specs.Layer3.{layer3, header_of, si_lch_of, lf_of, sc_of, header_answer}
+use Rattle.channel.specs.Layer3.{layer3, header_of, si_lch_of, lf_of, sc_of}
+use Rattle.channel.specs.Headers.{header_answer}
 use Rattle.channel.specs.State.{keeps_rule, is_waiting, as_waiting, after_joining, step_of}
 use Rattle.channel.specs.declared.Channel.{Channel}
 use Rattle.channel.proofs.Order.{refused_or, in_order, all_passed}

@@ -18,11 +18,6 @@ outcome (Ok Taken) = taken
 outcome (Ok (Message header)) = message header
 outcome (Err refusal) = refused (number_of refusal)
 
--- what the gathered bytes are: a message, or why they are none
-abbrev pub message_or : Result Header Refusal → Outcome
-message_or (Ok header) = message header
-message_or (Err refusal) = refused (number_of refusal)
-
 -- an answer, and the channel that it leaves
 pub record ChannelAfter : Type 0 where
   pub answer : Outcome

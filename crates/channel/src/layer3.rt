@@ -14,7 +14,7 @@ pub struct BlockHeader {
 
 impl BlockHeader {
     ghost use Rattle.std.specs.Prelude.{◌≡◌, ◌+◌, ◌%◌};
-    ghost use Rattle.channel.specs.Layer3.{ReadsHeader};
+    ghost use Rattle.channel.specs.Headers.{ReadsHeader};
 
     // Reads the header of a block. Refused: another length than 22 (1), another channel (5), a wrong check (4).
     pub(crate) fn read(information: &[u8]) -> Result<Self, Refusal>

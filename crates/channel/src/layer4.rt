@@ -1,6 +1,6 @@
 // Layer 4: the header of a message, and the message's tests.
 ghost use Rattle.std.specs.Prelude.{◌&&◌, ◌≡◌, ◌*◌, ◌≤◌, ◌<◌, ◌^◌, eqb, length, drop};
-ghost use Rattle.channel.specs.Answers.{message_or};
+ghost use Rattle.channel.specs.Headers.{message_or};
 ghost use Rattle.channel.specs.Layer4.{where_ext, size_of, opened, opened_at, right_form, blocks_for, message_of, is_padding};
 
 use crate::{DATA_IN_BLOCK, Header, MOST_GATHERED};

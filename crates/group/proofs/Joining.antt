@@ -10,7 +10,8 @@ use Rattle.answers.specs.Numbers as numbers
 use Rattle.answers.specs.Rules.{unless}
 use Rattle.channel.specs.declared.Fields.{Fields}
 use Rattle.group.specs.Answers.{repeat, refused, GroupAfter, group_after}
-use Rattle.group.specs.State.{idle, keeps_rule, message_fits, is_idle, is_repeat, follows_of, joined_on, join_of}
+use Rattle.group.specs.State.{idle, keeps_rule, message_fits, is_idle, is_repeat, joined_on, join_of}
+use Rattle.group.specs.Follows.{follows_of}
 use Rattle.group.specs.declared.Group.{Group}
 use Rattle.channel.proofs.Order.{refused_or, in_order, all_passed}
 

@@ -1,4 +1,5 @@
 pub mod Answers
 pub mod State
+pub mod Follows
 pub mod Leading
 pub mod Repeats

@@ -61,13 +61,6 @@ unfoldable pub is_repeat : Group → Fields → List ℕ → List ℕ → Bool
 is_repeat g m s buffer =
     not (is_idle g.phase) && eqb m.ci g.ci && beq m.first (eqb g.messages 1) && not m.last && same_as s (last_joined g buffer)
 
--- whether a message that is no First goes on with what is gathered: not idle (8), CI one more, modulo 4 (8), not fifteen messages already (9)
-abbrev pub follows_of : Group → Fields → numbers.Paper
-follows_of g m =
-    unless (not (is_idle g.phase)) (numbers.refused 8)
-    (unless (eqb m.ci ((g.ci + 1) % 4)) (numbers.refused 8)
-    (unless (ltb g.messages 15) (numbers.refused 9) numbers.accepted))
-
 -- buffer short (10); a state otherwise, number above 16,383, data over 255 bytes or a field over its width (11); another service number or COM set (13);
 -- a repeat: these change nothing. First set: whatever was gathered is dropped and this data is the group so far. Not First and idle (8), CI not one
 -- more, modulo 4 (8), fifteen messages already (9): idle. Otherwise the data is joined on

@@ -2,7 +2,8 @@
 ghost use Rattle.std.specs.Prelude.{◌≡◌, ◌+◌, ◌<◌, ◌≤◌, length};
 ghost use Rattle.answers.specs.Numbers.{paper};
 ghost use Rattle.group.specs.Answers.{outcome, group_after};
-ghost use Rattle.group.specs.State.{idle, length_holds, keeps_rule, message_fits, is_repeat, follows_of, joined_on, join_of};
+ghost use Rattle.group.specs.State.{idle, length_holds, keeps_rule, message_fits, is_repeat, joined_on, join_of};
+ghost use Rattle.group.specs.Follows.{follows_of};
 
 use crate::{Group, Phase, Step};
 use answers::Refusal;

@@ -22,7 +22,8 @@ use Rattle.channel.specs.declared.Header.{Header}
 use Rattle.channel.specs.declared.Stepped.{Stepped}
 use Rattle.channel.proofs.Laws.{rule_sc}
 use Rattle.group.specs.Answers.{Outcome, taken, repeat, whole, refused, GroupAfter, group_after}
-use Rattle.group.specs.State.{group_with, idle, keeps_rule, message_fits, is_repeat, follows_of, joined_on, join_of}
+use Rattle.group.specs.State.{group_with, idle, keeps_rule, message_fits, is_repeat, joined_on, join_of}
+use Rattle.group.specs.Follows.{follows_of}
 use Rattle.group.specs.Leading.{Message, GroupAndBuffer, JoinResult, told_result, join_message, left_by, Joins}
 use Rattle.group.specs.Repeats.{Sent, once, often, TwoBits, MayRepeat, AllMayRepeat, with_repeats, repeat_of}
 use Rattle.group.specs.declared.Group.{Group}

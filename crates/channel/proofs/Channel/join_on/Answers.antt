@@ -5,7 +5,8 @@ use native.Mathlib.Omega.{arith}
 use Rattle.std.specs.Prelude.{Result, Ok, Err}
 use Rattle.std.specs.Result.{MatchResult, IsOkAnd}
 use Rattle.answers.specs.declared.Refusal.{Refusal}
-use Rattle.channel.specs.Answers.{outcome, message_or}
+use Rattle.channel.specs.Answers.{outcome}
+use Rattle.channel.specs.Headers.{message_or}
 use Rattle.channel.specs.declared.Header.{Header}
 use Rattle.channel.specs.declared.Step.{Step}
 use Rattle.channel.specs.declared.Step.TheVariants.{Message}

@@ -12,7 +12,8 @@ use lib.Seq.{length-take-le}
 use Rattle.answers.specs.Numbers.{accepted, refused}
 use Rattle.answers.specs.Rules.{unless}
 use Rattle.header.specs.Header.{check, total, holds}
-use Rattle.channel.specs.Layer3.{layer3, header_of, si_lch_of, header_answer}
+use Rattle.channel.specs.Layer3.{layer3, header_of, si_lch_of}
+use Rattle.channel.specs.Headers.{header_answer}
 use Rattle.channel.proofs.Laws.{check_at}
 use Rattle.channel.proofs.layer3.BlockHeader.read.Goals as goal
 
