@@ -4,7 +4,7 @@
 // piece, as in f16.
 #![tactic(auto)]
 
-ghost use Rattle.std.specs.Prelude.{◌≡◌, length};
+ghost use Rattle.std.specs.Prelude.{◌≡◌, ◌≤◌, length, IfSome};
 
 mod blocks;
 mod frames;
@@ -31,9 +31,10 @@ fn main(rt: HostRuntime) {
     let size = size.unwrap_or(0);
     let count = argument(&rt, 2, &mut digits).and_then(number).unwrap_or(0);
     let input = read_into(&mut records, &mut rt.reader());
+    // Written first: bench/run sees that the sum is missing, of a run that was cut short too.
+    let _ = print!(rt; "sum\t");
     let sum = take(task[0], size, input, &mut written, count);
-    // bench/run sees that a sum is missing.
-    let _ = println!(rt; "sum\t{sum}");
+    let _ = println!(rt; "{sum}");
 }
 
 // Reads to the end of the input or of the room. Where reading fails, what came until then is all.
@@ -57,7 +58,9 @@ fn room() -> [u8; ROOM]
 }
 
 // An argument. One that does not fit into its room is none, and leaves its first bytes there: so its letter tells a task.
-fn argument<'a, R: Env>(rt: &R, index: usize, room: &'a mut [u8]) -> Option<&'a [u8]> {
+fn argument<'a, R: Env>(rt: &R, index: usize, room: &'a mut [u8]) -> Option<&'a [u8]>
+    ensures { IfSome result (λ word. length word.now ≤ length room.old) }
+{
     let length = rt.arg(index, room).ok()?;
     Some(&room[..length])
 }

@@ -77,8 +77,9 @@ unfolding is_next
 next_short slots l h = rw (slot_short l (slots + 1) (last l) h) (and-false _)
 
 -- a line that does is that of the channel whose number is what follows
-pub first_number : (l number : List ℕ) (n : ℕ) → same_as (take 8 l) channel_tab ≡ true → number ≡ drop 8 l → length number + 8 ≡ length l → same_as l (first_line n) ≡ same_as number (decimal n)
-first_number l number n e d h = first_parts l n (omega arith) ∙ rw (e, d)
+pub first_number : (l name number : List ℕ) (n : ℕ) → 8 ≤ length l → name ≡ take 8 l → number ≡ drop 8 l → same_as name channel_tab ≡ true
+    → same_as l (first_line n) ≡ same_as number (decimal n)
+first_number l name number n h a d e = first_parts l n h ∙ rw (ap (λ s. same_as s channel_tab) (sym a) ∙ e, d)
 
 -- a line that does not begin with `channel` and a tab is the first line of no channel
 pub not_first : (l : List ℕ) (n : ℕ) → same_as (take 8 l) channel_tab ≡ false → same_as l (first_line n) ≡ false

@@ -1,6 +1,7 @@
 -- The bytes of a piece up to its line feed, behind the line that a reader holds. Assumes nothing.
-use Rattle.std.proofs.Common.{◌≡◌, ℕ, ◌+◌, ◌<◌, ◌≤◌, true, List, ◌∷◌, ◌++◌, length, take, drop, refl, sym, ap, ◌∙◌, arith, append_assoc, length-append}
-use Rattle.std.proofs.lemmas.List.{take-append-drop, drop-drop, length-take-le}
+use Rattle.std.proofs.Common.{◌≡◌, ℕ, ◌+◌, ◌<◌, ◌≤◌, true, List, [], ◌∷◌, ◌++◌, length, take, drop, min, get_or, refl, sym, ap, ◌∙◌, arith, append_assoc, length-append}
+use Rattle.std.proofs.lemmas.List.{take-append-drop, take-append-le, drop-append-le, drop-drop, length-take, length-drop, length-take-le}
+use Rattle.std.proofs.Math.ListN.{drop_of_length-le}
 use Rattle.std.proofs.lemmas.Slice.{take-put_mid}
 use borrow.Rule.Slice.PartMut.{put_mid}
 use Rattle.logs.specs.declared.Counts.{Counts}
@@ -14,18 +15,35 @@ use Rattle.logs.proofs.Written.{slot_run, slot_before}
 use Rattle.logs.specs.Machine.{NextSlot}
 use Rattle.text.specs.Find.{index_of}
 
--- a piece: a line, and what is left of it, which begins with a line feed where there is any
-pub record Cut (piece line rest : List ℕ) : Type 0 where
+-- A piece: a line, and what is left of it, which begins with a line feed where there is any and the line ends before all bytes that
+-- were looked at.
+pub record Cut (most : ℕ) (piece line rest : List ℕ) : Type 0 where
   pub plain : is_plain line ≡ true
   pub whole : piece ≡ line ++ rest
-  pub fed : (b : ℕ) (behind : List ℕ) → rest ≡ b ∷ behind → b ≡ 10
+  pub fed : length line < most → (b : ℕ) (behind : List ℕ) → rest ≡ b ∷ behind → b ≡ 10
 
-pub cut : (piece line rest : List ℕ) (n : ℕ) → n ≡ index_of 10 piece → line ≡ take n piece → rest ≡ drop n piece → Cut piece line rest
-cut piece line rest n e l r =
+fed_near : (near far : List ℕ) (n b : ℕ) (behind : List ℕ) → n ≡ index_of 10 near → n ≤ length near → (n ≡ length near → far ≡ [])
+    → drop n near ++ far ≡ b ∷ behind → b ≡ 10
+fed_near near far n b behind e h none f = go (drop n near) refl f
+  where
+    go : (l : List ℕ) → drop n near ≡ l → l ++ far ≡ b ∷ behind → b ≡ 10
+    go [] d f = omega (arith, ap length f, ap length (none (omega (arith, h, ap length d, length-drop n near))))
+    go (x ∷ y) d f = sym (ap (λ (k : List ℕ). get_or k 0 0) f) ∙ feed_behind near x y (ap (λ (k : ℕ). drop k near) (sym e) ∙ d)
+
+-- So many bytes of a piece are looked at for its line feed.
+pub cut : (piece line rest : List ℕ) (most j n : ℕ) → j ≡ min (length piece) most → n ≡ index_of 10 (take j piece) → n ≤ length (take j piece)
+    → line ≡ take n piece → rest ≡ drop n piece → Cut most piece line rest
+cut piece line rest most j n k e h l r =
+    let near = take j piece in
+    let far = drop j piece in
+    let is : piece ≡ near ++ far = sym (take-append-drop j piece) in
     record {
-      plain = ap is_plain (l ∙ ap (λ (k : ℕ). take k piece) e) ∙ plain_before piece;
+      plain = ap is_plain (l ∙ ap (take n) is ∙ take-append-le n near far h ∙ ap (λ (i : ℕ). take i near) e) ∙ plain_before near;
       whole = sym (take-append-drop n piece) ∙ rw (l, r);
-      fed = λ b behind f. feed_behind piece b behind (ap (λ (k : ℕ). drop k piece) (sym e) ∙ sym r ∙ f);
+      fed = λ few b behind f.
+          fed_near near far n b behind e h
+          (λ z. drop_of_length-le piece (omega (arith, k, z, few, length-take j piece, ap length l, length-take n piece)))
+          (sym (drop-append-le n near far h) ∙ ap (drop n) (sym is) ∙ sym r ∙ f);
     }
 
 line_small : (s : Reader) → Kept s → length (line_of s) ≡ s.length
@@ -55,23 +73,23 @@ more_ruled s k line p h =
     held_ruled s.counts (line_of s ++ line) r.before (plain_append (line_of s) line r.plain p) (rw length-append (omega (arith, line_small s k)))
 
 -- and they lead there.
-pub line_held : (s : Reader) (piece line rest : List ℕ) → Kept s → is_open s.phase ≡ true → Cut piece line rest → s.length + length line ≤ 63
+pub line_held : (s : Reader) (most : ℕ) (piece line rest : List ℕ) → Kept s → is_open s.phase ≡ true → Cut most piece line rest → s.length + length line ≤ 63
     → run s piece ≡ run (held_of s.counts (line_of s ++ line)) rest
-line_held s piece line rest k o t h =
+line_held s most piece line rest k o t h =
     ap (run s) t.whole ∙ ap (λ (t : Reader). run t (line ++ rest)) (open_held s k.0 k.1 o) ∙ run_append (held_of s.counts (line_of s)) line rest
     ∙ ap (λ (t : Reader). run t rest) (run_hold line s.counts (line_of s) t.plain (omega (arith, line_small s k)))
 
 -- With its line feed the line is judged.
-pub line_judged : (s : Reader) (piece line rest : List ℕ) (b : ℕ) (behind : List ℕ) → Kept s → is_open s.phase ≡ true → Cut piece line rest
-    → s.length + length line ≤ 63 → rest ≡ b ∷ behind → run s piece ≡ run (after_line s.counts (judged s.counts (line_of s ++ line))) behind
-line_judged s piece line rest b behind k o t h e =
-    line_held s piece line rest k o t h ∙ ap (run (held_of s.counts (line_of s ++ line))) (e ∙ ap (λ (x : ℕ). x ∷ behind) (t.fed b behind e))
+pub line_judged : (s : Reader) (most : ℕ) (piece line rest : List ℕ) (b : ℕ) (behind : List ℕ) → Kept s → is_open s.phase ≡ true → Cut most piece line rest
+    → s.length + length line ≤ 63 → length line < most → rest ≡ b ∷ behind → run s piece ≡ run (after_line s.counts (judged s.counts (line_of s ++ line))) behind
+line_judged s most piece line rest b behind k o t h few e =
+    line_held s most piece line rest k o t h ∙ ap (run (held_of s.counts (line_of s ++ line))) (e ∙ ap (λ (x : ℕ). x ∷ behind) (t.fed few b behind e))
     ∙ run_cons (held_of s.counts (line_of s ++ line)) 10 behind ∙ ap (λ (t : Reader). run t behind) (step_feed s.counts (line_of s ++ line))
 
 -- Where the bytes are too many it is refused.
-pub line_refused : (s : Reader) (piece line rest : List ℕ) → Kept s → is_open s.phase ≡ true → Cut piece line rest → 63 < s.length + length line
+pub line_refused : (s : Reader) (most : ℕ) (piece line rest : List ℕ) → Kept s → is_open s.phase ≡ true → Cut most piece line rest → 63 < s.length + length line
     → run s piece ≡ between Refused s.counts
-line_refused s piece line rest k o t h =
+line_refused s most piece line rest k o t h =
     ap (run s) t.whole ∙ ap (λ (t : Reader). run t (line ++ rest)) (open_held s k.0 k.1 o)
     ∙ over_run line s.counts (line_of s) rest t.plain (omega (arith, line_small s k)) (omega (arith, line_small s k, reader_small s k.0))
 

@@ -8,7 +8,7 @@ mod machine;
 mod rule;
 mod slot;
 
-ghost use Rattle.std.specs.Prelude.{◌≡◌};
+ghost use Rattle.std.specs.Prelude.{◌≡◌, eqb};
 ghost use Rattle.logs.specs.Reader.{told_log, told_fed, fresh_reader, between, fine, no_reader, read_of, fed_of, end_of};
 
 use answers::Refusal;
@@ -128,6 +128,13 @@ impl Reader {
             held: [0; LONGEST_LINE],
             length: 0,
         }
+    }
+
+    // Whether the next byte is the first of a line.
+    fn holds_nothing(&self) -> bool
+        ensures { result ≡ eqb self.now.length 0 }
+    {
+        self.length == 0
     }
 }
 

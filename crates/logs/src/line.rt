@@ -20,11 +20,17 @@ pub(crate) fn judge(counts: Counts, line: &[u8]) -> Option<Counts>
     }
 }
 
+// What stands before the number in a first line.
+const NAME: &[u8; 8] = b"channel\t";
+
 // The channel whose first line this is: `channel`, a tab and the channel's number. It is asked once a log, so each is tried.
 fn channel_of(line: &[u8]) -> Option<u8>
     ensures { result ≡ channel_up_to last_channel line.now }
 {
-    let number = line.strip_prefix(b"channel\t")?;
+    let (name, number) = line.split_at_checked(NAME.len())?;
+    if !text::same(name, NAME) {
+        return None;
+    }
     for channel in (1..=band::LAST_CHANNEL).rev() {
         if spells(number, u32::from(channel)) {
             return Some(channel);

@@ -43,7 +43,7 @@ impl Machine {
         ensures same { run self.old.reader piece.now ≡ run self.new.reader result.now }
         ensures shorter { length result.now ≤ length piece.now }
     {
-        if self.reader.phase != Phase::Open || self.reader.length != 0 {
+        if self.reader.phase != Phase::Open || !self.reader.holds_nothing() {
             return piece;
         }
         let mut counts = self.reader.counts;
@@ -66,8 +66,11 @@ impl Machine {
             return &[];
         }
         let start = self.reader.length;
-        let (line, rest) = piece.split_at(text::find(piece, b'\n'));
-        if LONGEST_LINE - start < line.len() {
+        let room = LONGEST_LINE - start;
+        // A longer line is refused wherever it ends, so its end is not looked for.
+        let near = &piece[..piece.len().min(room + 1)];
+        let (line, rest) = piece.split_at(text::find(near, b'\n'));
+        if room < line.len() {
             self.reader = Reader::between_lines(Phase::Refused, self.reader.counts);
             return &[];
         }

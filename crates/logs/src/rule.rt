@@ -23,6 +23,6 @@ impl Reader {
         ensures { result ≡ is_held self.now.held self.now.length }
     {
         let (line, rest) = self.held.split_at(self.length);
-        !line.contains(&b'\n') && rest == &[0; LONGEST_LINE][self.length..]
+        !line.contains(&b'\n') && text::same(rest, &[0; LONGEST_LINE][self.length..])
     }
 }

@@ -80,8 +80,11 @@ fn read_line<B: BufRead>(input: &mut B, line: &mut Vec<u8>) -> io::Result<bool> 
 
 fn answer<R: Print + AllocGlobal>(rt: &R, line: &[u8]) -> Result<(), Failure> {
     let written = match cases::answer(line, rt.alloc()) {
-        Ok(answer) => rt.println(answer.as_str()),
-        Err(Unanswered::NoCase) => rt.println("bad case"),
+        Ok(mut answer) => {
+            answer.push('\n').map_err(|_| Failure::OutOfMemory)?;
+            rt.write_all(answer.as_bytes())
+        }
+        Err(Unanswered::NoCase) => rt.write_all(b"bad case\n"),
         Err(Unanswered::OutOfMemory) => return Err(Failure::OutOfMemory),
     };
     written.map_err(|_| Failure::Output)

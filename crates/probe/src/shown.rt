@@ -17,14 +17,21 @@ pub(crate) struct Bytes<'a>(pub &'a [u8]);
 #[derive(Clone, Copy)]
 pub(crate) struct Outcome<'a, T>(pub &'a str, pub &'a Result<T, Refusal>);
 
+// As many bytes as are spelled at once: a text that is written digit by digit takes five times as long.
+const SPELLED: usize = 256;
+
 impl Display for Bytes<'_> {
     fn fmt<W: fmt::Write>(&self, f: &mut Formatter<W>) -> fmt::Result {
         if self.0.is_empty() {
             return f.write_str(".");
         }
-        for byte in self.0 {
-            f.write_char(char::from(text::first_digit(*byte)))?;
-            f.write_char(char::from(text::second_digit(*byte)))?;
+        let mut room = [[0; 2]; SPELLED];
+        for bytes in self.0.chunks(SPELLED) {
+            for (digits, byte) in room.iter_mut().zip(bytes) {
+                *digits = [text::first_digit(*byte), text::second_digit(*byte)];
+            }
+            let digits = room[..bytes.len().min(SPELLED)].as_flattened();
+            f.write_str(str::from_utf8(digits).map_err(|_| fmt::Error)?)?;
         }
         Ok(())
     }

@@ -1,15 +1,15 @@
 -- Laws of bytes that are read from the front. Assumes nothing.
-use Rattle.std.proofs.Common.{◌≡◌, ℕ, zero, suc, ◌+◌, ◌*◌, ◌/◌, ◌<◌, true, false, cond, eqb, List, [], ◌∷◌, ◌++◌, length, get_or, take, drop, set, refl, sym, ap, ◌∙◌, arith, Some}
+use Rattle.std.proofs.Common.{◌≡◌, ℕ, zero, suc, ◌+◌, ◌-◌, ◌*◌, ◌/◌, ◌%◌, ◌<◌, ◌≤◌, Bool, true, false, cond, ◌&&◌, leb, leb-true, List, [], ◌∷◌, ◌++◌, length, get_or, take, drop, set, refl, sym, ap, ◌∙◌, arith, Option, Some, None, is_some}
+use mathlib.Core.Bool.{and-eq-true_iff, false≢true}
 use Rattle.std.specs.Option.{unwrap_or}
-use Rattle.std.specs.List.{slice_split, onto_first}
 use Rattle.std.proofs.lemmas.Bool.{false_from_ne_true}
-use Rattle.std.proofs.lemmas.List.{append_assoc, drop_more, length-take-le, set_at, take_more}
-use Rattle.std.proofs.lemmas.List.Splits.{length-slice_split}
+use Rattle.std.proofs.lemmas.List.{append_assoc, drop-drop, drop_more, length-take-le, set_at, take_more}
 use Rattle.std.proofs.lemmas.Slice.Eq.{bytes_eq-Decides}
 use Rattle.text.specs.Find.{index_of}
 use Rattle.text.specs.Fields.{same_as, field_of}
-use Rattle.text.specs.Ascii.{tab}
+use Rattle.text.specs.Ascii.{tab, byte}
 use Rattle.text.specs.Hexadecimal.{digit_of, decoded}
+use Rattle.text.specs.Numbers.{is_decimal}
 
 -- the test of lists that are the same
 pub same_refl : (a : List ℕ) → same_as a a ≡ true
@@ -22,37 +22,40 @@ same_true a b e = (bytes_eq-Decides a b).0 e
 pub other_length : (a b : List ℕ) → (length a ≡ length b → ⊥) → same_as a b ≡ false
 other_length a b h = false_from_ne_true (same_as a b) (λ e. h (ap length (same_true a b e)))
 
--- The fields of a line are the parts between its tabs. A byte that is no tab goes to the first of them.
-onto_front : (b : ℕ) (parts : List (List ℕ)) → 0 < length parts → get_or (onto_first b parts) 0 [] ≡ b ∷ get_or parts 0 []
-onto_front b [] h = absurd (omega arith)
-onto_front b (part ∷ parts) h = refl
-
-onto_behind : (b : ℕ) (parts : List (List ℕ)) (index : ℕ) → get_or (onto_first b parts) (suc index) [] ≡ get_or parts (suc index) []
-onto_behind b [] index = refl
-onto_behind b (part ∷ parts) index = refl
-
+-- Where a line has no tab its other fields are empty, and behind its first tab they stand in order.
 no_field : (index : ℕ) → field_of index [] ≡ []
 unfolding index_of
 no_field zero = refl
 no_field (suc index) = no_field index
 
-abbrev pub parts_of : List ℕ → List (List ℕ)
-parts_of line = slice_split (λ b. eqb b tab) line
+behind_tab : (line rest : List ℕ) (n : ℕ) → n ≡ index_of tab line → drop n line ≡ rest → drop (suc (index_of tab line)) line ≡ drop 1 rest
+behind_tab line rest n e d = let more : suc (index_of tab line) ≡ n + 1 = omega (arith, e) in ap (λ (k : ℕ). drop k line) more ∙ sym (drop-drop 1 n line) ∙ ap (drop 1) d
 
-pub field_get : (index : ℕ) (line : List ℕ) → get_or (parts_of line) index [] ≡ field_of index line
-unfolding index_of
-field_get zero [] = refl
-field_get (suc index) [] = sym (no_field index)
-field_get zero (b ∷ line) =
-    elim (eqb b tab) as (λ t. get_or (cond t ([] ∷ parts_of line) (onto_first b (parts_of line))) 0 [] ≡ take (cond t 0 (suc (index_of tab line))) (b ∷ line)) [
-      | true ↦ refl
-      | false ↦ onto_front b (parts_of line) (omega (arith, length-slice_split (λ x. eqb x tab) line)) ∙ ap (λ part. b ∷ part) (field_get zero line)
-    ]
-field_get (suc index) (b ∷ line) =
-    elim (eqb b tab) as (λ t. get_or (cond t ([] ∷ parts_of line) (onto_first b (parts_of line))) (suc index) [] ≡ field_of index (drop (suc (cond t 0 (suc (index_of tab line)))) (b ∷ line))) [
-      | true ↦ field_get index line
-      | false ↦ onto_behind b (parts_of line) index ∙ field_get (suc index) line
-    ]
+pub field_none : (index : ℕ) (line rest : List ℕ) (n : ℕ) → n ≡ index_of tab line → rest ≡ drop n line → length rest ≡ 0 → 0 < index → field_of index line ≡ []
+field_none zero line rest n e d none h = absurd (omega arith)
+field_none (suc index) line [] n e d none h = ap (field_of index) (behind_tab line [] n e (sym d)) ∙ no_field index
+field_none (suc index) line (x ∷ rest) n e d none h = absurd (omega (arith, none))
+
+pub field_behind : (left index : ℕ) (line : List ℕ) (n x : ℕ) (rest behind : List ℕ) → n ≡ index_of tab line → rest ≡ drop n line → rest ≡ x ∷ behind → index ≡ suc left
+    → field_of left behind ≡ field_of index line
+field_behind left index line n x rest behind e d is h = sym (ap (λ (k : ℕ). field_of k line) h ∙ ap (field_of left) (behind_tab line (x ∷ behind) n e (sym d ∙ is)))
+
+-- the value of a digit: the low half of its byte, and nine more of a letter
+pub value_is : (b : ℕ) → is_some (digit_of b) ≡ true → digit_of b ≡ Some (b % 16 + 9 * (b / 64))
+value_is b h = by_range (is_decimal b) (leb (byte "a") b && leb b (byte "f")) (leb (byte "A") b && leb b (byte "F")) refl refl refl h
+  where
+    ranged : (low high : ℕ) → (leb low b && leb b high) ≡ true → (low ≤ b) × (b ≤ high)
+    ranged low high e = let t = (and-eq-true_iff (leb low b) (leb b high)).0 e in (leb-true low b t.0, leb-true b high t.1)
+
+    of_range : (decimal small great : Bool) → Option ℕ
+    of_range decimal small great = cond decimal (Some (b - byte "0")) (cond small (Some (b - byte "a" + 10)) (cond great (Some (b - byte "A" + 10)) None))
+
+    by_range : (decimal small great : Bool) → is_decimal b ≡ decimal → (leb (byte "a") b && leb b (byte "f")) ≡ small → (leb (byte "A") b && leb b (byte "F")) ≡ great
+        → is_some (of_range decimal small great) ≡ true → of_range decimal small great ≡ Some (b % 16 + 9 * (b / 64))
+    by_range true small great d s g h = let r = ranged 48 57 d in ap Some (omega (arith, r.0, r.1))
+    by_range false true great d s g h = let r = ranged 97 102 s in ap Some (omega (arith, r.0, r.1))
+    by_range false false true d s g h = let r = ranged 65 70 g in ap Some (omega (arith, r.0, r.1))
+    by_range false false false d s g h = absurd (false≢true h)
 
 -- as many bytes as pairs of digits
 pub length-decoded : (s : List ℕ) → length (decoded s) ≡ length s / 2

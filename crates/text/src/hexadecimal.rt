@@ -1,23 +1,31 @@
 // Bytes as hexadecimal digits, two to a byte.
-ghost use Rattle.std.specs.Prelude.{◌≡◌, true, ◌++◌, ◌+◌, ◌*◌, ◌/◌, ◌%◌, ◌≤◌, ◌<◌, length, drop};
+ghost use Rattle.std.specs.Prelude.{◌≡◌, true, Some, is_some, ◌++◌, ◌+◌, ◌*◌, ◌/◌, ◌%◌, ◌≤◌, ◌<◌, length, drop};
 ghost use Rattle.text.specs.Hexadecimal.{digit_of, hexadecimal, decoded, hex_digit, read_bytes_of, room_after, count_of};
 
 // The digits that bytes are written in, by their values.
 const DIGITS: [u8; 16] = *b"0123456789abcdef";
 
-// The value of a hexadecimal digit, and none for any other byte.
-fn value(digit: u8) -> Option<u8>
-    ensures { result ≡ digit_of digit }
+fn is_digit(digit: u8) -> bool
+    ensures { result ≡ is_some (digit_of digit) }
 {
-    let value = char::from(digit).to_digit(16)?;
-    Some(value as u8)
+    matches!(digit, b'0'..=b'9' | b'a'..=b'f' | b'A'..=b'F')
+}
+
+// The value of a hexadecimal digit: the low half of its byte, and nine more of a letter. It makes no test, since no processor
+// foresees whether a digit is a letter: with a `match` bytes take twice as long to read.
+#[tactic(auto, using(crate::proofs::Laws::value_is))]
+fn value(digit: u8) -> u8
+    requires { is_some (digit_of digit) ≡ true }
+    ensures { digit_of digit ≡ Some result }
+{
+    digit % 16 + 9 * (digit / 64)
 }
 
 // Whether every byte is a hexadecimal digit.
 fn all_digits(digits: &[u8]) -> bool
     ensures { result ≡ hexadecimal digits.now }
 {
-    digits.iter().all(|digit| value(*digit).is_some())
+    digits.iter().all(|digit| is_digit(*digit))
 }
 
 // Puts the bytes of an even number of digits at the start of the output.
@@ -28,8 +36,8 @@ fn decode(digits: &[u8], output: &mut [u8])
     ensures { output.new ≡ decoded digits.now ++ drop (length digits.now / 2) output.old }
 {
     for i in 0..digits.len() / 2 {
-        let high = value(digits[2 * i]).unwrap();
-        let low = value(digits[2 * i + 1]).unwrap();
+        let high = value(digits[2 * i]);
+        let low = value(digits[2 * i + 1]);
         output[i] = high * 16 + low;
     }
 }

@@ -9,13 +9,15 @@ pub fn read_number(digits: &[u8], most: u32) -> Option<u32>
     if digits.is_empty() {
         return None;
     }
-    let mut value: u32 = 0;
+    let mut value: u64 = 0;
     for byte in digits {
-        let digit = char::from(*byte).to_digit(10)?;
-        value = value.checked_mul(10)?.checked_add(digit)?;
-        if most < value {
+        if !byte.is_ascii_digit() {
+            return None;
+        }
+        value = value * 10 + u64::from(*byte - b'0');
+        if u64::from(most) < value {
             return None;
         }
     }
-    Some(value)
+    Some(value as u32)
 }

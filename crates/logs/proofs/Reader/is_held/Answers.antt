@@ -11,7 +11,7 @@ unfolding is_held
 returns-then-not-contains c =
     let parts = c.split_at.result in
     let plain : is_plain parts.0.now ≡ true = sym (plain_any parts.0.now) ∙ ap not (sym c.contains.ensures.value ∙ c.if-not-contains.true) in
-    rw (sym c.split_at.ensures.front, sym c.split_at.ensures.back, plain) (c.eq.ensures ∙ ap (same_as parts.1.now) (part_to_end zeros c.args.self.now.length))
+    rw (sym c.split_at.ensures.front, sym c.split_at.ensures.back, plain) (c.same.ensures ∙ ap (same_as parts.1.now) (part_to_end zeros c.args.self.now.length))
 
 pub returns-else-not-contains : goal.returns-else-not-contains
 unfolding is_held

@@ -7,4 +7,4 @@ loop-i-preserved c =
     let p = c.loop-i in
     let n : length c.args.text.now ≡ 9 = search rules in
     let d = c.if-not-is_ascii_digit.ensures.cases in
-    rw c.from.ensures (numeral_more c.args.text.now p.i p.number p.invariant (omega arith) (omega arith) c.if-text-eq48.false d.0 d.1)
+    rw c.from.ensures (numeral_more c.args.text.now p.i p.number p.invariant.0 (omega arith) (omega arith) p.invariant.1 d.0 d.1, p.invariant.1)

@@ -1,4 +1,4 @@
-use Rattle.std.proofs.Common.{refl, sym, ap, ◌∙◌, arith, rules}
+use Rattle.std.proofs.Common.{refl, sym, ap, ◌∙◌, arith, rules, eqb-true}
 use Rattle.logs.specs.declared.Phase.TheVariants.{Open}
 use Rattle.logs.specs.declared.Reader.{Reader}
 use Rattle.logs.specs.Reader.{is_reader, run}
@@ -27,13 +27,13 @@ pub invariant_of-self : goal.invariant_of-self
 invariant_of-self c =
     let m = c.args.self.now in
     let o = does_not_differ m.reader.phase _ c.ne.ensures c.if-ne.false in
-    let e = between_with m.reader (m.ruled, search rules) o c.if-self-ne0.false c.loop-outcome.counts in
+    let e = between_with m.reader (m.ruled, search rules) o (eqb-true _ _ (sym c.holds_nothing.ensures ∙ c.if-not-holds_nothing.false)) c.loop-outcome.counts in
     record { ruled = ap is_reader e ∙ between_ruled Open _ refl c.loop-outcome.invariant.0 }
 
 pub returns-clause-same : goal.returns-clause-same
 returns-clause-same c =
     let m = c.args.self.now in
     let o = does_not_differ m.reader.phase _ c.ne.ensures c.if-ne.false in
-    let e = between_with m.reader (m.ruled, search rules) o c.if-self-ne0.false c.loop-outcome.counts in
-    ap (λ (r : Reader). run r c.args.piece.now) (open_between m.reader (m.ruled, search rules) o c.if-self-ne0.false) ∙ c.loop-outcome.invariant.1
+    let e = between_with m.reader (m.ruled, search rules) o (eqb-true _ _ (sym c.holds_nothing.ensures ∙ c.if-not-holds_nothing.false)) c.loop-outcome.counts in
+    ap (λ (r : Reader). run r c.args.piece.now) (open_between m.reader (m.ruled, search rules) o (eqb-true _ _ (sym c.holds_nothing.ensures ∙ c.if-not-holds_nothing.false))) ∙ c.loop-outcome.invariant.1
     ∙ ap (λ (r : Reader). run r c.loop-outcome.rest.now) (sym e)
