@@ -30,6 +30,7 @@ impl Display for Bytes<'_> {
             for (digits, byte) in room.iter_mut().zip(bytes) {
                 *digits = [text::first_digit(*byte), text::second_digit(*byte)];
             }
+            // They are no more than that, but a proof knows nothing of a chunk.
             let digits = room[..bytes.len().min(SPELLED)].as_flattened();
             f.write_str(str::from_utf8(digits).map_err(|_| fmt::Error)?)?;
         }
