@@ -5,10 +5,11 @@ ghost use Rattle.text.specs.Hexadecimal.{digit_of, hexadecimal, decoded, hex_dig
 // The digits that bytes are written in, by their values.
 const DIGITS: [u8; 16] = *b"0123456789abcdef";
 
+// The tests are joined by `|`, since no processor foresees which of them holds: in one pattern letters take half as long again.
 fn is_digit(digit: u8) -> bool
     ensures { result ≡ is_some (digit_of digit) }
 {
-    matches!(digit, b'0'..=b'9' | b'a'..=b'f' | b'A'..=b'F')
+    matches!(digit, b'0'..=b'9') | matches!(digit, b'a'..=b'f') | matches!(digit, b'A'..=b'F')
 }
 
 // The value of a hexadecimal digit: the low half of its byte, and nine more of a letter. It makes no test, since no processor
